@@ -1,0 +1,82 @@
+-- Small examples of what the cards leave open, by computation.
+use Prim.Native.Nat.{ℕ}
+use mathlib.Core.Path.{_≡_, refl}
+use mathlib.Core.List.{List, [], _∷_}
+use lib.IntN.{pos, negsuc}
+use Rattle.definitions.specs.Sum.{sum, countIf}
+use Rattle.definitions.specs.Build.{build, joined, keepIf}
+use Rattle.definitions.specs.Geometry.{Shift, origin, indexOf, source, atSources}
+use Rattle.definitions.specs.Shrink.{average, subsample, mean, halvedSample, shrink2, sideAt, levelOf}
+use Rattle.definitions.specs.Threshold.{bins, target, binsAdded, cut, thresholdBit, exclusionBit}
+use Rattle.definitions.specs.Bitmap.{wordsPerRow, bitOf, bitAt}
+use Rattle.definitions.specs.Difference.{Bitmaps, Counts, bitmapsOf, bitmapsIn, comparedBit, disagreeingBit, overlap, counts}
+use Rattle.definitions.specs.Align.{Stack, shift, logUpTo, log2, levels, tried, leastFrom, earliestLeast, refine, bitmapsAt, countsAt, stepAt, step, stackOf, exposure, neighbour, walk, stepOf}
+use Rattle.definitions.specs.Report.{Terms, window, isRival, survey, frameCounts, limitOf, rivals, bytes32, twosComplement, recordBytes, verdict}
+use Rattle.definitions.specs.Refusals.{answer, accepted, refused, cutChecks, framesChecks}
+
+-- A pixel whose threshold bit and exclusion bit are these.
+abbrev pixel : ℕ → ℕ → Bitmaps
+pixel t e = record { threshold = λ (x y : ℕ). t; exclusion = λ (x y : ℕ). e }
+
+-- At -65 column 2 reads column 67, bit 3 of the second word: rounding towards zero at a word would read column 66 or 3.
+across-a-word : counts 130 1 (bitmapsIn 130 (4 ∷ 0 ∷ 0 ∷ []) (4 ∷ 0 ∷ 0 ∷ [])) (bitmapsIn 130 (0 ∷ 0 ∷ 0 ∷ []) (0 ∷ 8 ∷ 0 ∷ [])) (shift (negsuc 64) (pos 0)) ≡ record { disagreeing = 1; compared = 1 }
+unfolding sum indexOf source atSources wordsPerRow bitOf bitAt bitmapsIn comparedBit disagreeingBit overlap counts
+across-a-word = refl
+
+-- The target's pixel is not trusted. Masked before the XOR, the bits 1 and 0 would differ and count.
+mask-after-xor : counts 1 1 (pixel 1 1) (pixel 0 0) origin ≡ record { disagreeing = 0; compared = 0 }
+unfolding sum indexOf source atSources comparedBit disagreeingBit overlap counts
+mask-after-xor = refl
+
+-- All nine alike: the centre wins.
+tie-to-the-centre : refine (λ (s : Shift). 3) (shift (pos 5) (negsuc 6)) ≡ shift (pos 5) (negsuc 6)
+unfolding tried leastFrom earliestLeast refine
+tie-to-the-centre = refl
+
+-- Two single pixels that disagree: the first candidate beside the centre compares nothing, and wins.
+nothing-compared-wins : refine (λ (s : Shift). counts 1 1 (pixel 1 1) (pixel 0 1) s .disagreeing) origin ≡ shift (negsuc 0) (negsuc 0)
+unfolding sum indexOf source atSources comparedBit disagreeingBit overlap counts tried leastFrom earliestLeast refine
+nothing-compared-wins = refl
+
+-- Of the nine shifts of a single pixel only the centre compares one: the others disagree in none, and a floor of 1 keeps them out.
+below-the-floor : survey (counts 1 1 (pixel 1 1) (pixel 1 1)) origin 1 1 0 ≡ origin ∷ []
+unfolding sum build joined keepIf indexOf source atSources comparedBit disagreeingBit overlap counts window isRival survey
+below-the-floor = refl
+
+-- Two frames of card D's row.
+abbrev twice : Stack
+twice = stackOf (4 ∷ 4 ∷ []) (1 ∷ 1 ∷ []) (0 ∷ 10 ∷ 20 ∷ 30 ∷ 0 ∷ 10 ∷ 20 ∷ 30 ∷ []) 0 50 (record { bits = 6; tolerance = 4; shrink = average })
+
+abbrev terms : ℕ → Terms
+terms f = record { reach = 1; floor = f; margin = 0 }
+
+-- The step (0, 0) compares three pixels, one to either side one: a verdict of each kind, by the floor.
+verdict-of-each-kind : (verdict twice (terms 1) 0 ≡ 0) × (verdict twice (terms 4) 1 ≡ 1) × (verdict twice (terms 2) 1 ≡ 2) × (verdict twice (terms 1) 1 ≡ 3)
+unfolding sum countIf build joined keepIf indexOf source atSources sideAt levelOf bins target binsAdded cut thresholdBit exclusionBit bitmapsOf comparedBit disagreeingBit overlap counts logUpTo log2 levels tried leastFrom earliestLeast refine bitmapsAt countsAt stepAt step stackOf exposure neighbour stepOf window isRival survey frameCounts limitOf rivals verdict
+verdict-of-each-kind = (refl, refl, refl, refl)
+
+-- An odd column is dropped, and Subsample takes the upper left sample.
+odd-side-dropped : (shrink2 subsample 3 2 (1 ∷ 2 ∷ 3 ∷ 4 ∷ 5 ∷ 6 ∷ []) ≡ 1 ∷ []) × (shrink2 average 3 2 (1 ∷ 2 ∷ 3 ∷ 4 ∷ 5 ∷ 6 ∷ []) ≡ 3 ∷ [])
+unfolding build joined mean halvedSample shrink2
+odd-side-dropped = (refl, refl)
+
+-- Down from the reference, then up; frame 4 steps against frame 3, not against the reference.
+walk-and-neighbour : (walk 2 5 ≡ 1 ∷ 0 ∷ 3 ∷ 4 ∷ []) × (neighbour 2 4 ≡ 3) × (neighbour 2 0 ≡ 1)
+unfolding build walk neighbour
+walk-and-neighbour = (refl, refl, refl)
+
+-- A record of frame 1 at (-1, 2) with 3 of 260.
+bytes-of-a-record : recordBytes (record { frame = 1; shift = shift (negsuc 0) (pos 2); counts = record { disagreeing = 3; compared = 260 } })
+    ≡ 1 ∷ 0 ∷ 0 ∷ 0 ∷ 255 ∷ 255 ∷ 255 ∷ 255 ∷ 2 ∷ 0 ∷ 0 ∷ 0 ∷ 3 ∷ 0 ∷ 0 ∷ 0 ∷ 4 ∷ 1 ∷ 0 ∷ 0 ∷ []
+unfolding bytes32 twosComplement recordBytes
+bytes-of-a-record = refl
+
+-- A wrong length and a percentile over 100: 2 comes first.
+first-check-first : answer {A = ℕ} (cutChecks 2 2 3 101) 0 ≡ refused 2 []
+unfolding answer
+first-check-first = refl
+
+-- Frames of 8 by 8 but for frame 0 and frame 3, the reference 1: the walk meets frame 0 first.
+first-unequal-pair : answer {A = ℕ} (framesChecks (8 ∷ 8 ∷ 8 ∷ 9 ∷ []) (7 ∷ 8 ∷ 8 ∷ 8 ∷ []) 50 1) 0 ≡ refused 4 (8 ∷ 8 ∷ 8 ∷ 7 ∷ 0 ∷ [])
+unfolding answer build walk neighbour
+first-unequal-pair = refl

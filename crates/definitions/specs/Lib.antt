@@ -1,0 +1,14 @@
+-- What a reader must believe: document 01's terms by pixel, one file per file of the original, then the report, the refusals and the cards.
+pub mod Sum
+pub mod Build
+pub mod Geometry
+pub mod Gray
+pub mod Shrink
+pub mod Threshold
+pub mod Bitmap
+pub mod Difference
+pub mod Align
+pub mod Report
+pub mod Refusals
+pub mod Cards
+pub mod Examples
