@@ -1,10 +1,12 @@
 -- The report: the rivals of each step, their records, and the verdicts.
-use Prim.Native.Nat.{ℕ, zero, suc, _+_, _-_, _*_, _/_, _%_, _≤_}
+use Prim.Native.Nat.{ℕ, suc, _+_, _-_, _*_, _/_, _%_, _≤_, _<_}
+use mathlib.Core.Path.{_≡_}
 use mathlib.Core.Bool.{Bool, cond, _&&_}
 use mathlib.Core.List.{List, [], _∷_, _++_, map}
 use lib.Dec.{ltb, leb, eqb}
 use lib.IntN.{ℤ, pos, negsuc, natAbs, _+ℤ_, _-ℤ_}
 use lib.ListN.{length}
+use lib.Signed.{_<ℤ_}
 use Rattle.definitions.specs.Sum.{sum}
 use Rattle.definitions.specs.Build.{build, joined, image, keepIf}
 use Rattle.definitions.specs.Geometry.{Shift, Rect, commonCrop}
@@ -67,6 +69,12 @@ pub record Record : Type 0 where
   pub frame : ℕ
   pub shift : Shift
   pub counts : Counts
+
+-- A record stands before another: frames rise, then y, then x.
+pub data Before (d e : Record) : Type 0 where
+  by-frame : d .frame < e .frame → Before d e
+  by-row : d .frame ≡ e .frame → d .shift .y <ℤ e .shift .y → Before d e
+  by-column : d .frame ≡ e .frame → d .shift .y ≡ e .shift .y → d .shift .x <ℤ e .shift .x → Before d e
 
 -- The records of frame k.
 unfoldable pub frameRecords : Stack → Terms → ℕ → List Record

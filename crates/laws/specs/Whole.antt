@@ -151,4 +151,3 @@ false-le (negsuc a) (pos b) h = absurd (never a b h)
     never : (a b : ℕ) → b + suc a < 0 + 0 → ⊥
     never a b h = omega arith
 false-le (negsuc a) (negsuc b) h = lt-leb b a (omega arith)
-
