@@ -12,7 +12,7 @@ use Rattle.definitions.specs.Bitmap.{wordsPerRow, bitOf, bitAt}
 use Rattle.definitions.specs.Difference.{Bitmaps, Counts, bitmapsOf, bitmapsIn, comparedBit, disagreeingBit, overlap, counts}
 use Rattle.definitions.specs.Align.{Stack, shift, logUpTo, log2, levels, tried, leastFrom, earliestLeast, refine, bitmapsAt, countsAt, stepAt, step, stackOf, exposure, neighbour, walk, stepOf}
 use Rattle.definitions.specs.Report.{Terms, window, isRival, survey, frameCounts, limitOf, rivals, bytes32, twosComplement, recordBytes, verdict}
-use Rattle.definitions.specs.Refusals.{answer, accepted, refused, cutChecks, framesChecks}
+use Rattle.definitions.specs.Refusals.{answer, accepted, refused, sideOver, wrongLength, percentileOver, noReference, framesOver, cutChecks, pairDiffers, framesChecks}
 
 -- A pixel whose threshold bit and exclusion bit are these.
 abbrev pixel : ℕ → ℕ → Bitmaps
@@ -73,10 +73,10 @@ bytes-of-a-record = refl
 
 -- A wrong length and a percentile over 100: 2 comes first.
 first-check-first : answer {A = ℕ} (cutChecks 2 2 3 101) 0 ≡ refused 2 []
-unfolding answer
+unfolding answer sideOver wrongLength percentileOver cutChecks
 first-check-first = refl
 
 -- Frames of 8 by 8 but for frame 0 and frame 3, the reference 1: the walk meets frame 0 first.
 first-unequal-pair : answer {A = ℕ} (framesChecks (8 ∷ 8 ∷ 8 ∷ 9 ∷ []) (7 ∷ 8 ∷ 8 ∷ 8 ∷ []) 50 1) 0 ≡ refused 4 (8 ∷ 8 ∷ 8 ∷ 7 ∷ 0 ∷ [])
-unfolding answer build walk neighbour
+unfolding answer sideOver wrongLength percentileOver noReference framesOver pairDiffers framesChecks build walk neighbour
 first-unequal-pair = refl

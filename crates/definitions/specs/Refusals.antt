@@ -2,7 +2,7 @@
 -- that fails refuses; a call with none that fails is accepted.
 use Prim.Native.Nat.{ℕ, _*_, _/_, _%_}
 use mathlib.Core.Path.{_≡_}
-use mathlib.Core.Bool.{Bool, cond, not, _&&_}
+use mathlib.Core.Bool.{Bool, cond, not, _&&_, _||_}
 use mathlib.Core.List.{List, [], _∷_, _++_, map}
 use lib.Dec.{ltb, leb, eqb}
 use lib.IntN.{ℤ}
@@ -46,15 +46,19 @@ Scratch checks need old new = after checks (FreeUpTo need old new) (new ≡ old)
 -- ---- the checks by 01's numbers
 
 -- 1: a side over 8,192.
-abbrev pub sideOver : ℕ → Check
+unfoldable pub sideOver : ℕ → Check
 sideOver side = record { fails = ltb 8192 side; number = 1; values = [] }
 
+-- Either side of a size is over 8,192.
+unfoldable pub eitherOver : ℕ → ℕ → Bool
+eitherOver w h = ltb 8192 w || ltb 8192 h
+
 -- 2: a list or buffer of the wrong length.
-abbrev pub wrongLength : ℕ → ℕ → Check
+unfoldable pub wrongLength : ℕ → ℕ → Check
 wrongLength n right = record { fails = not (eqb n right); number = 2; values = [] }
 
 -- 3: a percentile over 100.
-abbrev pub percentileOver : ℕ → Check
+unfoldable pub percentileOver : ℕ → Check
 percentileOver p = record { fails = ltb 100 p; number = 3; values = [] }
 
 -- Sizes that are not the same.
@@ -62,68 +66,68 @@ abbrev pub unequal : ℕ → ℕ → ℕ → ℕ → Bool
 unequal w h w′ h′ = not (eqb w w′ && eqb h h′)
 
 -- 4: sizes differ, with both sizes.
-abbrev pub sizesDiffer : ℕ → ℕ → ℕ → ℕ → Check
+unfoldable pub sizesDiffer : ℕ → ℕ → ℕ → ℕ → Check
 sizesDiffer w h w′ h′ = record { fails = unequal w h w′ h′; number = 4; values = w ∷ h ∷ w′ ∷ h′ ∷ [] }
 
 -- 5: no such reference, with the reference and the frame count.
-abbrev pub noReference : ℕ → ℕ → Check
+unfoldable pub noReference : ℕ → ℕ → Check
 noReference reference n = record { fails = leb n reference; number = 5; values = reference ∷ n ∷ [] }
 
 -- 6: over 16 frames.
-abbrev pub framesOver : ℕ → Check
+unfoldable pub framesOver : ℕ → Check
 framesOver n = record { fails = ltb 16 n; number = 6; values = [] }
 
 -- 7: scratch too short.
-abbrev pub scratchShort : ℕ → ℕ → Check
+unfoldable pub scratchShort : ℕ → ℕ → Check
 scratchShort n need = record { fails = ltb n need; number = 7; values = [] }
 
 -- 8: a padding bit set.
-abbrev pub padded : List ℕ → ℕ → ℕ → Check
+unfoldable pub padded : List ℕ → ℕ → ℕ → Check
 padded words w h = record { fails = ltb 0 (paddingSet words w h); number = 8; values = [] }
 
 -- 9: a reach over 64.
-abbrev pub reachOver : ℕ → Check
+unfoldable pub reachOver : ℕ → Check
 reachOver r = record { fails = ltb 64 r; number = 9; values = [] }
 
 -- 10: record space too short, with the number of records needed.
-abbrev pub spaceShort : ℕ → ℕ → Check
+unfoldable pub spaceShort : ℕ → ℕ → Check
 spaceShort space needed = record { fails = ltb space (20 * needed); number = 10; values = needed ∷ [] }
 
 -- 11: a pixel outside: a column or a row that is not below its side.
-abbrev pub pixelOutside : ℕ → ℕ → Check
+unfoldable pub pixelOutside : ℕ → ℕ → Check
 pixelOutside place side = record { fails = leb side place; number = 11; values = [] }
 
 -- 12: a coordinate outside i32.
-abbrev pub coordinateOutside : ℤ → Check
+unfoldable pub coordinateOutside : ℤ → Check
 coordinateOutside z = record { fails = not (inI32 z); number = 12; values = [] }
 
 -- ---- the calls, each by its sizes and lengths
 
 -- Grey from RGB.
-abbrev pub fromRgbChecks : ℕ → ℕ → ℕ → ℕ → List Check
+unfoldable pub fromRgbChecks : ℕ → ℕ → ℕ → ℕ → List Check
 fromRgbChecks w h rgb out = sideOver w ∷ sideOver h ∷ wrongLength rgb (3 * (w * h)) ∷ wrongLength out (w * h) ∷ []
 
 -- Halving into a buffer of the halved size.
-abbrev pub shrinkChecks : ℕ → ℕ → ℕ → ℕ → List Check
+unfoldable pub shrinkChecks : ℕ → ℕ → ℕ → ℕ → List Check
 shrinkChecks w h samples out = sideOver w ∷ sideOver h ∷ wrongLength samples (w * h) ∷ wrongLength out (w / 2 * (h / 2)) ∷ []
 
 -- Moving an image.
-abbrev pub shiftedChecks : ℕ → ℕ → ℕ → ℕ → List Check
+unfoldable pub shiftedChecks : ℕ → ℕ → ℕ → ℕ → List Check
 shiftedChecks w h samples out = sideOver w ∷ sideOver h ∷ wrongLength samples (w * h) ∷ wrongLength out (w * h) ∷ []
 
 -- The cut.
-abbrev pub cutChecks : ℕ → ℕ → ℕ → ℕ → List Check
+unfoldable pub cutChecks : ℕ → ℕ → ℕ → ℕ → List Check
 cutChecks w h samples percentile = sideOver w ∷ sideOver h ∷ wrongLength samples (w * h) ∷ percentileOver percentile ∷ []
 
 -- Packing into a threshold and an exclusion bitmap.
-abbrev pub packingChecks : ℕ → ℕ → ℕ → ℕ → ℕ → ℕ → List Check
+unfoldable pub packingChecks : ℕ → ℕ → ℕ → ℕ → ℕ → ℕ → List Check
 packingChecks w h samples threshold exclusion percentile =
     sideOver w ∷ sideOver h
     ∷ wrongLength samples (w * h) ∷ wrongLength threshold (bitmapWords w h) ∷ wrongLength exclusion (bitmapWords w h)
     ∷ percentileOver percentile ∷ []
 
 -- Counting two packed pairs: a reference of w by h and a target of w′ by h′.
-abbrev pub countingChecks : ℕ → ℕ → ℕ → ℕ → List ℕ → List ℕ → List ℕ → List ℕ → List Check
+unfoldable pub countingChecks : ℕ → ℕ → ℕ → ℕ → List ℕ → List ℕ → List ℕ → List ℕ → List Check
 countingChecks w h w′ h′ threshold exclusion threshold′ exclusion′ =
     sideOver w ∷ sideOver h ∷ sideOver w′ ∷ sideOver h′
     ∷ sizesDiffer w h w′ h′
@@ -132,32 +136,32 @@ countingChecks w h w′ h′ threshold exclusion threshold′ exclusion′ =
     ∷ padded threshold w h ∷ padded exclusion w h ∷ padded threshold′ w h ∷ padded exclusion′ w h ∷ []
 
 -- Reading or setting the pixel of column x and row y.
-abbrev pub pixelChecks : ℕ → ℕ → ℕ → ℕ → ℕ → List Check
+unfoldable pub pixelChecks : ℕ → ℕ → ℕ → ℕ → ℕ → List Check
 pixelChecks w h words x y = sideOver w ∷ sideOver h ∷ wrongLength words (bitmapWords w h) ∷ pixelOutside x w ∷ pixelOutside y h ∷ []
 
 -- The total of set bits.
-abbrev pub totalChecks : ℕ → ℕ → List ℕ → List Check
+unfoldable pub totalChecks : ℕ → ℕ → List ℕ → List Check
 totalChecks w h words = sideOver w ∷ sideOver h ∷ wrongLength (length words) (bitmapWords w h) ∷ padded words w h ∷ []
 
 -- Row y of a bitmap: wherever one of these fails, the empty part.
-abbrev pub rowChecks : ℕ → ℕ → ℕ → ℕ → List Check
+unfoldable pub rowChecks : ℕ → ℕ → ℕ → ℕ → List Check
 rowChecks w h words y = sideOver w ∷ sideOver h ∷ wrongLength words (bitmapWords w h) ∷ pixelOutside y h ∷ []
 
 -- Doubling or offsetting a shift, by the coordinates that it would have.
-abbrev pub shiftChecks : Shift → List Check
+unfoldable pub shiftChecks : Shift → List Check
 shiftChecks s = coordinateOutside (s .x) ∷ coordinateOutside (s .y) ∷ []
 
 -- Filling a frame's pyramid, and asking for a level, which gives the empty part wherever one of these fails.
-abbrev pub pyramidChecks : ℕ → ℕ → ℕ → ℕ → ℕ → List Check
+unfoldable pub pyramidChecks : ℕ → ℕ → ℕ → ℕ → ℕ → List Check
 pyramidChecks w h samples bits scratch =
     sideOver w ∷ sideOver h ∷ wrongLength samples (w * h) ∷ scratchShort scratch (halvedSamples w h (levels w h bits)) ∷ []
 
 -- The crop of a shift list: its length has to be even.
-abbrev pub cropChecks : ℕ → ℕ → ℕ → List Check
+unfoldable pub cropChecks : ℕ → ℕ → ℕ → List Check
 cropChecks w h n = sideOver w ∷ sideOver h ∷ record { fails = eqb (n % 2) 1; number = 2; values = [] } ∷ []
 
 -- The step of two frames: a reference of w by h and a target of w′ by h′, with the lengths of their samples and of the scratch.
-abbrev pub stepChecks : ℕ → ℕ → ℕ → ℕ → ℕ → ℕ → ℕ → ℕ → ℕ → ℕ → List Check
+unfoldable pub stepChecks : ℕ → ℕ → ℕ → ℕ → ℕ → ℕ → ℕ → ℕ → ℕ → ℕ → List Check
 stepChecks w h w′ h′ percentile bits reference target bytes words =
     sideOver w ∷ sideOver h ∷ sideOver w′ ∷ sideOver h′
     ∷ percentileOver percentile
@@ -166,7 +170,7 @@ stepChecks w h w′ h′ percentile bits reference target bytes words =
     ∷ scratchShort bytes (stepBytes w h bits) ∷ scratchShort words (stepWords w h) ∷ []
 
 -- 4 for a pair of the walk, with both sizes, the neighbour's first, and the later-walked frame's number.
-abbrev pub pairDiffers : List ℕ → List ℕ → ℕ → ℕ → Check
+unfoldable pub pairDiffers : List ℕ → List ℕ → ℕ → ℕ → Check
 pairDiffers widths heights reference k =
     let j = neighbour reference k in
     let w = getD widths j 0 in
@@ -176,7 +180,7 @@ pairDiffers widths heights reference k =
     record { fails = unequal w h w′ h′; number = 4; values = w ∷ h ∷ w′ ∷ h′ ∷ k ∷ [] }
 
 -- What a stack and a report check of their frames, the first unequal pair of the walk last.
-abbrev pub framesChecks : List ℕ → List ℕ → ℕ → ℕ → List Check
+unfoldable pub framesChecks : List ℕ → List ℕ → ℕ → ℕ → List Check
 framesChecks widths heights percentile reference =
     framesOver (length widths) ∷ framesOver (length heights)
     ∷ wrongLength (length heights) (length widths)
@@ -186,7 +190,7 @@ framesChecks widths heights percentile reference =
     ∷ map (pairDiffers widths heights reference) (walk reference (length widths))
 
 -- The scratch of n frames, the first of which has the size that all have once the pairs of the walk are equal.
-abbrev pub stackScratchChecks : ℕ → ℕ → ℕ → ℕ → ℕ → ℕ → List Check
+unfoldable pub stackScratchChecks : ℕ → ℕ → ℕ → ℕ → ℕ → ℕ → List Check
 stackScratchChecks n w h bits bytes words =
     scratchShort bytes (stackNeed n (stepBytes w h bits)) ∷ scratchShort words (stackNeed n (stepWords w h)) ∷ []
 
@@ -212,5 +216,5 @@ surveyChecks widths heights percentile reference bits samples shiftList verdictL
     ∷ stackScratchChecks n w h bits bytes words
 
 -- The report: after all these, 10, with the records that it needs and the length of the record space.
-abbrev pub reportChecks : List Check → ℕ → ℕ → List Check
+unfoldable pub reportChecks : List Check → ℕ → ℕ → List Check
 reportChecks before needed space = before ++ spaceShort space needed ∷ []

@@ -1,13 +1,15 @@
 -- Ordered checks: a check that fails refuses, one that passes leaves the rest, and what an answer says of the value and the buffers.
 -- Assumes nothing.
 use mathlib.Core.Path.{_≡_, refl, sym, ap, _∙_}
-use mathlib.Core.Bool.{Bool, true, false, cond, not, _&&_}
+use mathlib.Core.Bool.{Bool, true, false, cond, not, _||_}
 use mathlib.Core.List.{List, [], _∷_, _++_}
 use Prim.Native.Nat.{ℕ, _*_, _<_, _≤_}
 use native.Mathlib.Omega.{arith}
 use lib.Dec.{ltb, leb, eqb}
-use borrow.Author.Tests.{lt-ltb, le-ltb, le-leb, lt-leb, eq-eqb, ne-eqb, ltb-true, ltb-false, eqb-true, not-false}
-use Rattle.definitions.specs.Refusals.{Check, Answer, accepted, refused, answer, after, spaceShort, reportChecks}
+use borrow.Author.Tests.{lt-ltb, le-ltb, le-leb, lt-leb, eq-eqb, ne-eqb, ltb-true, ltb-false}
+use Rattle.definitions.specs.Bitmap.{paddingSet}
+use Rattle.definitions.specs.Refusals.{Check, Answer, accepted, refused, answer, after, sideOver, eitherOver, wrongLength, percentileOver, scratchShort, padded, spaceShort, pixelOutside, reportChecks}
+use Rattle.laws.specs.Cases.{clash}
 
 -- an answer is not both
 pub not-both {ℓ} : {A : Type 0} {X : Type ℓ} {a : A} {n : ℕ} {v : List ℕ} → accepted a ≡ refused n v → X
@@ -51,32 +53,84 @@ module _ {A : Type 0} (a : A) where
       on true p ih = not-both (sym p)
       on false p ih = ih p
 
--- ---- the tests of the checks, as the code's branches give them
+-- ---- each check of 01 by the fact that a branch gives: `..-stop` refuses, `..-skip` leaves the rest
 
-pub over : {a b : ℕ} → a < b → ltb a b ≡ true
-over {a} {b} h = lt-ltb a b h
+module _ {A : Type 0} (a : A) where
+  pub side-stop : (n : ℕ) (l : List Check) → 8192 < n → refused 1 [] ≡ answer (sideOver n ∷ l) a
+  unfolding sideOver
+  side-stop n l h = stop a (sideOver n) l (lt-ltb 8192 n h)
 
-pub not-over : {a b : ℕ} → b ≤ a → ltb a b ≡ false
-not-over {a} {b} h = le-ltb a b h
+  pub side-skip : (n : ℕ) (l : List Check) {r : Answer A} → n ≤ 8192 → r ≡ answer l a → r ≡ answer (sideOver n ∷ l) a
+  unfolding sideOver
+  side-skip n l h q = skip a (sideOver n) l (le-ltb 8192 n h) q
 
-pub reached : {a b : ℕ} → a ≤ b → leb a b ≡ true
-reached {a} {b} h = le-leb a b h
+  pub length-stop : (n m : ℕ) (l : List Check) → (n ≡ m → ⊥) → refused 2 [] ≡ answer (wrongLength n m ∷ l) a
+  unfolding wrongLength
+  length-stop n m l h = stop a (wrongLength n m) l (ap not (ne-eqb n m h))
 
-pub not-reached : {a b : ℕ} → b < a → leb a b ≡ false
-not-reached {a} {b} h = lt-leb a b h
+  pub length-skip : (n m : ℕ) (l : List Check) {r : Answer A} → n ≡ m → r ≡ answer l a → r ≡ answer (wrongLength n m ∷ l) a
+  unfolding wrongLength
+  length-skip n m l h q = skip a (wrongLength n m) l (ap not (eq-eqb n m h)) q
 
-pub wrong : {a b : ℕ} → (a ≡ b → ⊥) → not (eqb a b) ≡ true
-wrong {a} {b} h = ap not (ne-eqb a b h)
+  pub percentile-stop : (p : ℕ) (l : List Check) → 100 < p → refused 3 [] ≡ answer (percentileOver p ∷ l) a
+  unfolding percentileOver
+  percentile-stop p l h = stop a (percentileOver p) l (lt-ltb 100 p h)
 
-pub right : {a b : ℕ} → a ≡ b → not (eqb a b) ≡ false
-right {a} {b} h = ap not (eq-eqb a b h)
+  pub percentile-skip : (p : ℕ) (l : List Check) {r : Answer A} → p ≤ 100 → r ≡ answer l a → r ≡ answer (percentileOver p ∷ l) a
+  unfolding percentileOver
+  percentile-skip p l h q = skip a (percentileOver p) l (le-ltb 100 p h) q
 
--- and back
-pub is-right : {a b : ℕ} → not (eqb a b) ≡ false → a ≡ b
-is-right {a} {b} h = eqb-true a b (not-false (eqb a b) h)
+  pub scratch-stop : (n need : ℕ) (l : List Check) → n < need → refused 7 [] ≡ answer (scratchShort n need ∷ l) a
+  unfolding scratchShort
+  scratch-stop n need l h = stop a (scratchShort n need) l (lt-ltb n need h)
 
-pub is-not-over : {a b : ℕ} → ltb a b ≡ false → b ≤ a
-is-not-over {a} {b} h = ltb-false a b h
+  pub scratch-skip : (n need : ℕ) (l : List Check) {r : Answer A} → need ≤ n → r ≡ answer l a → r ≡ answer (scratchShort n need ∷ l) a
+  unfolding scratchShort
+  scratch-skip n need l h q = skip a (scratchShort n need) l (le-ltb n need h) q
+
+  pub padded-stop : (words : List ℕ) (w h : ℕ) (l : List Check) → 0 < paddingSet words w h → refused 8 [] ≡ answer (padded words w h ∷ l) a
+  unfolding padded
+  padded-stop words w h l k = stop a (padded words w h) l (lt-ltb 0 (paddingSet words w h) k)
+
+  pub padded-skip : (words : List ℕ) (w h : ℕ) (l : List Check) {r : Answer A} → paddingSet words w h ≤ 0 → r ≡ answer l a → r ≡ answer (padded words w h ∷ l) a
+  unfolding padded
+  padded-skip words w h l k q = skip a (padded words w h) l (le-ltb 0 (paddingSet words w h) k) q
+
+  pub pixel-stop : (place side : ℕ) (l : List Check) → side ≤ place → refused 11 [] ≡ answer (pixelOutside place side ∷ l) a
+  unfolding pixelOutside
+  pixel-stop place side l h = stop a (pixelOutside place side) l (le-leb side place h)
+
+  pub pixel-skip : (place side : ℕ) (l : List Check) {r : Answer A} → place < side → r ≡ answer l a → r ≡ answer (pixelOutside place side ∷ l) a
+  unfolding pixelOutside
+  pixel-skip place side l h q = skip a (pixelOutside place side) l (lt-leb side place h) q
+
+  pub space-stop : (space needed : ℕ) (l : List Check) → space < 20 * needed → refused 10 (needed ∷ []) ≡ answer (spaceShort space needed ∷ l) a
+  unfolding spaceShort
+  space-stop space needed l h = stop a (spaceShort space needed) l (lt-ltb space (20 * needed) h)
+
+  pub space-skip : (space needed : ℕ) (l : List Check) {r : Answer A} → 20 * needed ≤ space → r ≡ answer l a → r ≡ answer (spaceShort space needed ∷ l) a
+  unfolding spaceShort
+  space-skip space needed l h q = skip a (spaceShort space needed) l (le-ltb space (20 * needed) h) q
+
+  -- both sides at once, by the test that the code makes
+  pub sides-stop : (w h : ℕ) (l : List Check) → eitherOver w h ≡ true → refused 1 [] ≡ answer (sideOver w ∷ sideOver h ∷ l) a
+  unfolding eitherOver
+  sides-stop w h l e = on (ltb 8192 w) refl e
+    where
+      on : (t : Bool) → ltb 8192 w ≡ t → (t || ltb 8192 h) ≡ true → refused 1 [] ≡ answer (sideOver w ∷ sideOver h ∷ l) a
+      on true p q = side-stop w (sideOver h ∷ l) (ltb-true 8192 w p)
+      on false p q = side-skip w (sideOver h ∷ l) (ltb-false 8192 w p) (side-stop h l (ltb-true 8192 h q))
+
+  pub sides-skip : (w h : ℕ) (l : List Check) {r : Answer A} → (w ≤ 8192) × (h ≤ 8192) → r ≡ answer l a → r ≡ answer (sideOver w ∷ sideOver h ∷ l) a
+  sides-skip w h l p q = side-skip w (sideOver h ∷ l) (p .0) (side-skip h l (p .1) q)
+
+pub sides-within : (w h : ℕ) → eitherOver w h ≡ false → (w ≤ 8192) × (h ≤ 8192)
+unfolding eitherOver
+sides-within w h e = on (ltb 8192 w) refl e
+  where
+    on : (t : Bool) → ltb 8192 w ≡ t → (t || ltb 8192 h) ≡ false → (w ≤ 8192) × (h ≤ 8192)
+    on true p q = clash q
+    on false p q = (ltb-false 8192 w p, ltb-false 8192 h q)
 
 -- ---- from the checks alone to the answer and the buffers
 
@@ -122,11 +176,20 @@ module _ {A : Type 0} (a : A) where
       on true p ih = refl
       on false p ih = ih p
 
+-- what a call that writes one buffer shows on its two paths
+pub refuses : {B : Type 0} (l : List Check) (new old : B) {n : ℕ} {v : List ℕ} → refused n v ≡ answer l (tt {0}) → (refused n v ≡ answer l (tt {0})) × (old ≡ after l new old)
+refuses l new old e = (e, sym (after-refused (tt {0}) l new old (sym e)))
+
+pub accepts : {B : Type 0} (l : List Check) (new old : B) {x : B} → accepted (tt {0}) ≡ answer l tt → x ≡ new → (accepted (tt {0}) ≡ answer l tt) × (x ≡ after l new old)
+accepts l new old e p = (e, p ∙ sym (after-accepted (tt {0}) l new old (sym e)))
+
 -- ---- the record space of a report whose other checks pass: refused for space exactly if 20 times the records exceed it
 
 module _ {A : Type 0} (a : A) (before : List Check) (needed space : ℕ) (all : answer before a ≡ accepted a) where
   pub refused-for-space : space < 20 * needed → answer (reportChecks before needed space) a ≡ refused 10 (needed ∷ [])
-  refused-for-space h = pass-all a before (spaceShort space needed ∷ []) all ∙ sym (stop a (spaceShort space needed) [] (over h))
+  unfolding reportChecks
+  refused-for-space h = pass-all a before (spaceShort space needed ∷ []) all ∙ sym (space-stop a space needed [] h)
 
   pub accepted-for-space : 20 * needed ≤ space → answer (reportChecks before needed space) a ≡ accepted a
-  accepted-for-space h = pass-all a before (spaceShort space needed ∷ []) all ∙ sym (skip a (spaceShort space needed) [] (not-over h) (done a))
+  unfolding reportChecks
+  accepted-for-space h = pass-all a before (spaceShort space needed ∷ []) all ∙ sym (space-skip a space needed [] h (done a))

@@ -13,3 +13,8 @@ pub mod Steps
 pub mod Checks
 pub mod Counts
 pub mod Cut
+pub mod Writes
+pub mod Sizes
+pub mod Members
+pub mod Records
+pub mod Verdicts

@@ -2,11 +2,11 @@
 use mathlib.Core.Path.{_≡_, refl, sym, ap, ap₂, _∙_}
 use mathlib.Core.Logic.{_⊎_, inl, inr, ⊎-elim}
 use Prim.Native.Nat.{ℕ, zero, suc, _+_, _-_, _*_, _/_, _%_, _^_, _≤_, _<_}
-use native.Mathlib.Nat.{mod-one, mod-eq-of-lt, eq-or-lt-of-le, le-of-suc-le-suc}
+use native.Mathlib.Nat.{mod-one, mod-eq-of-lt, eq-or-lt-of-le, le-of-suc-le-suc, add-mul, mul-assoc, mul-comm, add-zero, add-suc, zero-mul}
 use native.Mathlib.Numerals.{add-one, one-add}
 use native.Mathlib.Omega.{arith}
 use lib.Arith.{digits-lt}
-use lib.Pow.{high, low, mod-pow-add, shl-exact}
+use lib.Pow.{high, low, mod-pow-add, shl-exact, pow-add}
 use lib.Bits.{bitOr, or-shifted-r}
 use Rattle.definitions.specs.Bitmap.{bitOf, wordOf}
 use Rattle.laws.specs.Bits.{bit-lt, bit-mod, bit-past}
@@ -24,6 +24,11 @@ pub word-ext : (n : ℕ) (f g : ℕ → ℕ) → ((i : ℕ) → i < n → f i �
 unfolding wordOf
 word-ext zero f g h = refl
 word-ext (suc n) f g h = ap₂ (λ (a b : ℕ). a * 2 ^ n + b) (h n (omega arith)) (word-ext n f g (λ i l. h i (omega arith)))
+
+pub word-zero : (n : ℕ) → wordOf n (λ i. 0) ≡ 0
+unfolding wordOf
+word-zero zero = refl
+word-zero (suc n) = omega (arith, word-zero n)
 
 pub word-lt : (n : ℕ) (f : ℕ → ℕ) → ((i : ℕ) → i < n → f i < 2) → wordOf n f < 2 ^ n
 unfolding wordOf
@@ -74,3 +79,21 @@ word-set n i f h l e =
 
 pub word-skip : (i : ℕ) (f : ℕ → ℕ) → f i ≡ 0 → wordOf i f ≡ wordOf (i + 1) f
 word-skip i f e = omega (arith, word-more i f, ap (λ (x : ℕ). x * 2 ^ i + wordOf i f) e)
+
+-- in two parts
+pub word-split : (m n : ℕ) (f : ℕ → ℕ) → wordOf (m + n) f ≡ wordOf n (λ i. f (m + i)) * 2 ^ m + wordOf m f
+unfolding wordOf
+word-split m zero f = ap (λ (k : ℕ). wordOf k f) (add-zero m) ∙ omega arith
+word-split m (suc n) f =
+    let p : 2 ^ (m + n) ≡ 2 ^ m * 2 ^ n = pow-add 2 m n in
+    let q : f (m + n) * 2 ^ (m + n) ≡ f (m + n) * 2 ^ n * 2 ^ m =
+    ap (λ (x : ℕ). f (m + n) * x) (p ∙ mul-comm (2 ^ m) (2 ^ n)) ∙ sym (mul-assoc (f (m + n)) (2 ^ n) (2 ^ m)) in
+    ap (λ (k : ℕ). wordOf k f) (add-suc m n)
+    ∙ omega (arith, q, word-split m n f, add-mul (f (m + n) * 2 ^ n) (wordOf n (λ i. f (m + i))) (2 ^ m))
+
+-- bits that are clear from m on may be left out
+pub word-upto : (m n : ℕ) (f : ℕ → ℕ) → m ≤ n → ((i : ℕ) → m ≤ i → i < n → f i ≡ 0) → wordOf n f ≡ wordOf m f
+word-upto m n f l h =
+    let e : n ≡ m + (n - m) = omega arith in
+    let z : wordOf (n - m) (λ i. f (m + i)) ≡ 0 = word-ext (n - m) (λ i. f (m + i)) (λ i. 0) (λ i k. h (m + i) (omega arith) (omega arith)) ∙ word-zero (n - m) in
+    ap (λ (k : ℕ). wordOf k f) e ∙ word-split m (n - m) f ∙ ap (λ (x : ℕ). x * 2 ^ m + wordOf m f) z ∙ omega (arith, zero-mul (2 ^ m))

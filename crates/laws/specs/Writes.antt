@@ -1,0 +1,73 @@
+-- A run of stores, `sets l i vs`: what a loop that writes has stored so far, one store more, and the whole. Assumes nothing.
+use mathlib.Core.Path.{_≡_, refl, sym, ap, _∙_, subst}
+use mathlib.Core.List.{List, [], _∷_, _++_, append-nil}
+use Prim.Native.Nat.{ℕ, zero, suc, _+_, _*_, _<_, _≤_}
+use native.Mathlib.Nat.{add-zero, zero-add, add-suc, suc-add}
+use native.Mathlib.Omega.{arith}
+use lib.ListN.{length, getD, set, take, drop, drop-of-length-le}
+use lib.Seq.{sets, sets-eq, length-sets, set-comm, getD-set-other, drop-set-lt}
+use Rattle.definitions.specs.Build.{build, joined, image}
+use Rattle.laws.specs.Lists.{build-none, build-more, build-length, joined-none, joined-more, joined-length}
+
+module _ {A : Type 0} where
+  pub sets-append : (l : List A) (i : ℕ) (vs ws : List A) → sets l i (vs ++ ws) ≡ sets (sets l i vs) (i + length vs) ws
+  sets-append l i [] ws = ap (λ (k : ℕ). sets l k ws) (sym (add-zero i))
+  sets-append l i (v ∷ vs) ws =
+      sets-append (set l i v) (suc i) vs ws
+      ∙ ap (λ (k : ℕ). sets (sets (set l i v) (suc i) vs) k ws) (suc-add i (length vs) ∙ sym (add-suc i (length vs)))
+
+  -- all of a list
+  pub sets-whole : (l vs : List A) → length vs ≡ length l → sets l 0 vs ≡ vs
+  sets-whole l vs e =
+      sets-eq vs l 0 (omega arith)
+      ∙ ap (λ (r : List A). vs ++ r) (drop-of-length-le l {i = 0 + length vs} (omega arith))
+      ∙ append-nil vs
+
+  -- the front of a list
+  pub sets-front : (l vs : List A) → length vs ≤ length l → sets l 0 vs ≡ vs ++ drop (length vs) l
+  sets-front l vs h = sets-eq vs l 0 (omega arith) ∙ ap (λ (k : ℕ). vs ++ drop k l) (zero-add (length vs))
+
+  -- ---- a loop that stores f k at i + k
+
+  pub store-none : (l : List A) (i : ℕ) (f : ℕ → A) → l ≡ sets l i (build 0 f)
+  store-none l i f = sym (ap (sets l i) (build-none f))
+
+  pub store-more : (l : List A) (i k : ℕ) (f : ℕ → A) {m : List A} {v : A} → m ≡ sets l i (build k f) → v ≡ f k → set m (i + k) v ≡ sets l i (build (k + 1) f)
+  store-more l i k f {m} {v} p q =
+      ap (λ (n : List A). set n (i + k) v) p
+      ∙ ap (set (sets l i (build k f)) (i + k)) q
+      ∙ sym
+      (ap (sets l i) (build-more k f)
+      ∙ sets-append l i (build k f) (f k ∷ [])
+      ∙ ap (λ (j : ℕ). set (sets l i (build k f)) (i + j) (f k)) (build-length k f))
+
+  -- ---- a loop that stores the rows r k, each of n, at i + k * n
+
+  pub rows-none : (l : List A) (i : ℕ) (r : ℕ → List A) → l ≡ sets l i (joined 0 r)
+  rows-none l i r = sym (ap (sets l i) (joined-none r))
+
+  pub rows-more : (l : List A) (i n k : ℕ) (r : ℕ → List A) {m new : List A} → ((j : ℕ) → length (r j) ≡ n) → m ≡ sets l i (joined k r) → new ≡ sets m (i + k * n) (r k)
+      → new ≡ sets l i (joined (k + 1) r)
+  rows-more l i n k r {m} {new} e p q =
+      q ∙ ap (λ (x : List A). sets x (i + k * n) (r k)) p
+      ∙ sym
+      (ap (sets l i) (joined-more k r)
+      ∙ sets-append l i (joined k r) (r k)
+      ∙ ap (λ (j : ℕ). sets (sets l i (joined k r)) (i + j) (r k)) (joined-length k n r (λ j h. e j)))
+
+  -- ---- a store before or past a run
+
+  pub set-before : (l vs : List A) (i j : ℕ) (v : A) → i < j → set (sets l j vs) i v ≡ sets (set l i v) j vs
+  set-before l [] i j v h = refl
+  set-before l (w ∷ vs) i j v h =
+      set-before (set l j w) vs i (suc j) v (omega arith)
+      ∙ ap (λ (m : List A). sets m (suc j) vs) (set-comm l j i w v (λ e. omega arith))
+
+  -- what a run leaves alone
+  pub getD-before : (l vs : List A) (i j : ℕ) (d : A) → j < i → getD (sets l i vs) j d ≡ getD l j d
+  getD-before l [] i j d h = refl
+  getD-before l (v ∷ vs) i j d h = getD-before (set l i v) vs (suc i) j d (omega arith) ∙ getD-set-other l i j v d (λ e. omega arith)
+
+  pub drop-past : (l vs : List A) (i n : ℕ) → i + length vs ≤ n → drop n (sets l i vs) ≡ drop n l
+  drop-past l [] i n h = refl
+  drop-past l (v ∷ vs) i n h = drop-past (set l i v) vs (suc i) n (omega arith) ∙ drop-set-lt n l i v (omega arith)

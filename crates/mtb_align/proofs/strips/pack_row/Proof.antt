@@ -1,0 +1,180 @@
+-- `mtb_align::strips::pack_row` meets its contract. The loop has stored the first k words of both rows. Assumes nothing.
+use mathlib.Core.Path.{_≡_, refl, sym, ap, _∙_}
+use mathlib.Core.List.{List}
+use Prim.Native.Nat.{ℕ, _+_, _-_, _*_, _/_, _%_, _≤_, _<_}
+use borrow.Author.Needs.{needs}
+use native.Mathlib.Omega.{arith}
+use lib.ListN.{length}
+use lib.Seq.{sets}
+use Rattle.definitions.specs.Build.{build}
+use Rattle.definitions.specs.Threshold.{thresholdBit, exclusionBit}
+use Rattle.definitions.specs.Bitmap.{wordsPerRow}
+use Rattle.laws.specs.Writes.{store-none, store-more}
+use Rattle.mtb_align.proofs.Rows.{wordAt, full-word, part-word, row-full, row-part}
+use Rattle.mtb_align.proofs.strips.pack_row.Statement.{statement}
+use Rattle.mtb_align.proofs.strips.pack_row.Tie as tie
+
+abbrev Inv-loop : tie.InvT-loop
+Inv-loop samples from width table cut tolerance threshold₀ exclusion₀ at n span k₀ threshold exclusion k =
+    (k ≤ n)
+    × (length threshold ≡ length threshold₀)
+    × (length exclusion ≡ length exclusion₀)
+    × (threshold ≡ sets threshold₀ at (build k (wordAt samples (thresholdBit cut) from width)))
+    × (exclusion ≡ sets exclusion₀ at (build k (wordAt samples (exclusionBit cut tolerance) from width)))
+
+abbrev μ-loop : tie.MeasureT-loop
+μ-loop samples from width table cut tolerance threshold₀ exclusion₀ at n span k₀ threshold exclusion k =
+    n - k
+
+loop-holds : tie.Need-loop-holds Inv-loop μ-loop
+loop-holds c =
+    let x = c .before .before .before .args in (
+      omega arith,
+      refl,
+      refl,
+      store-none (x .threshold .now) (x .at) (wordAt (x .samples .now) (thresholdBit (x .cut)) (x .from) (x .width)),
+      store-none (x .exclusion .now) (x .at) (wordAt (x .samples .now) (exclusionBit (x .cut) (x .tolerance)) (x .from) (x .width)),
+    )
+
+mul-full : tie.Need-mul-full Inv-loop μ-loop
+mul-full c = omega arith
+
+add-full : tie.Need-add-full Inv-loop μ-loop
+add-full c = omega arith
+
+full-requires : tie.Need-full-requires Inv-loop μ-loop
+full-requires c κs = (omega arith, c .before .before .before .before .before .pre .2)
+
+add-threshold : tie.Need-add-threshold Inv-loop μ-loop
+add-threshold c = omega arith
+
+mul-threshold : tie.Need-mul-threshold Inv-loop μ-loop
+mul-threshold c = omega arith
+
+slice-write-threshold : tie.Need-slice-write-threshold Inv-loop μ-loop
+unfolding wordsPerRow
+slice-write-threshold c = omega arith
+
+add-exclusion : tie.Need-add-exclusion Inv-loop μ-loop
+add-exclusion c = omega arith
+
+mul-exclusion : tie.Need-mul-exclusion Inv-loop μ-loop
+mul-exclusion c = omega arith
+
+slice-write-exclusion : tie.Need-slice-write-exclusion Inv-loop μ-loop
+unfolding wordsPerRow
+slice-write-exclusion c = omega arith
+
+add-k : tie.Need-add-k Inv-loop μ-loop
+add-k c = omega arith
+
+loop-less : tie.Need-loop-less Inv-loop μ-loop
+loop-less c = omega arith
+
+loop-again : tie.Need-loop-again Inv-loop μ-loop
+loop-again c =
+    let l = c .before .before in
+    let x = l .before .before .before .before .args in
+    let i = l .loop .inv in
+    let k = l .loop .k in
+    let p = full-word (x .samples .now) (thresholdBit (x .cut)) (x .from) (x .width) k (omega arith) (c .full .ensures .0) in
+    let q = full-word (x .samples .now) (exclusionBit (x .cut) (x .tolerance)) (x .from) (x .width) k (omega arith) (c .full .ensures .1) in
+    let t = store-more (x .threshold .now) (x .at) k (wordAt (x .samples .now) (thresholdBit (x .cut)) (x .from) (x .width)) (i .3) p in
+    let e = store-more (x .exclusion .now) (x .at) k (wordAt (x .samples .now) (exclusionBit (x .cut) (x .tolerance)) (x .from) (x .width)) (i .4) q in
+    (omega arith, search needs, search needs, t, e)
+
+same-length : tie.Need-same-length Inv-loop μ-loop
+same-length c = c .before .before .loop .inv .1
+
+same-length-2 : tie.Need-same-length-2 Inv-loop μ-loop
+same-length-2 c = c .before .before .loop .inv .2
+
+returns : tie.Need-returns Inv-loop μ-loop
+returns c =
+    let l = c .before .before in
+    let x = l .before .before .before .before .args in
+    let i = l .loop .inv in (
+      row-full (x .samples .now) (thresholdBit (x .cut)) (x .from) (x .width) (x .threshold .now) (x .at) (omega arith) (omega arith) (i .3),
+      row-full (x .samples .now) (exclusionBit (x .cut) (x .tolerance)) (x .from) (x .width) (x .exclusion .now) (x .at) (omega arith) (omega arith) (i .4),
+    )
+
+mul-part : tie.Need-mul-part Inv-loop μ-loop
+mul-part c = omega arith
+
+add-part : tie.Need-add-part Inv-loop μ-loop
+add-part c = omega arith
+
+part-requires : tie.Need-part-requires Inv-loop μ-loop
+part-requires c κs = (omega arith, omega arith, c .before .before .before .before .before .before .pre .2)
+
+add-threshold-2 : tie.Need-add-threshold-2 Inv-loop μ-loop
+add-threshold-2 c = omega arith
+
+mul-threshold-2 : tie.Need-mul-threshold-2 Inv-loop μ-loop
+mul-threshold-2 c = omega arith
+
+slice-write-threshold-2 : tie.Need-slice-write-threshold-2 Inv-loop μ-loop
+unfolding wordsPerRow
+slice-write-threshold-2 c = omega arith
+
+add-exclusion-2 : tie.Need-add-exclusion-2 Inv-loop μ-loop
+add-exclusion-2 c = omega arith
+
+mul-exclusion-2 : tie.Need-mul-exclusion-2 Inv-loop μ-loop
+mul-exclusion-2 c = omega arith
+
+slice-write-exclusion-2 : tie.Need-slice-write-exclusion-2 Inv-loop μ-loop
+unfolding wordsPerRow
+slice-write-exclusion-2 c = omega arith
+
+same-length-3 : tie.Need-same-length-3 Inv-loop μ-loop
+same-length-3 c = search needs
+
+same-length-4 : tie.Need-same-length-4 Inv-loop μ-loop
+same-length-4 c = search needs
+
+returns-2 : tie.Need-returns-2 Inv-loop μ-loop
+returns-2 c =
+    let l = c .before .before .before in
+    let x = l .before .before .before .before .args in
+    let i = l .loop .inv in (
+      row-part (x .samples .now) (thresholdBit (x .cut)) (x .from) (x .width) (x .threshold .now) (x .at) (c .before .if1 .left) (omega arith) (i .3)
+          (part-word (x .samples .now) (thresholdBit (x .cut)) (x .from) (x .width) (c .part .ensures .0)),
+      row-part (x .samples .now) (exclusionBit (x .cut) (x .tolerance)) (x .from) (x .width) (x .exclusion .now) (x .at) (c .before .if1 .left) (omega arith) (i .4)
+          (part-word (x .samples .now) (exclusionBit (x .cut) (x .tolerance)) (x .from) (x .width) (c .part .ensures .1)),
+    )
+
+pub pack-row-spec : {M : Type 1} → statement M
+pack-row-spec =
+    tie.close
+    (tie.spec
+    Inv-loop
+    μ-loop
+    loop-holds
+    mul-full
+    add-full
+    full-requires
+    add-threshold
+    mul-threshold
+    slice-write-threshold
+    add-exclusion
+    mul-exclusion
+    slice-write-exclusion
+    add-k
+    loop-less
+    loop-again
+    same-length
+    same-length-2
+    returns
+    mul-part
+    add-part
+    part-requires
+    add-threshold-2
+    mul-threshold-2
+    slice-write-threshold-2
+    add-exclusion-2
+    mul-exclusion-2
+    slice-write-exclusion-2
+    same-length-3
+    same-length-4
+    returns-2)

@@ -1,0 +1,63 @@
+-- `mtb_align::strips::part` meets its contract. Assumes nothing.
+use borrow.Author.Needs.{needs}
+use mathlib.Core.Path.{_≡_, ap, _∙_}
+use Prim.Native.Nat.{ℕ, _+_, _-_}
+use native.Mathlib.Omega.{arith}
+use Rattle.definitions.specs.Threshold.{thresholdBit, exclusionBit}
+use Rattle.definitions.specs.Bitmap.{wordOf}
+use Rattle.mtb_align.specs.Packing.{bitsFrom}
+use Rattle.mtb_align.proofs.Two.{two-low, two-high, joined-low, joined-high}
+use Rattle.mtb_align.proofs.strips.part.Statement.{statement}
+use Rattle.mtb_align.proofs.strips.part.Tie as tie
+
+half-requires : tie.Need-half-requires
+half-requires c κs = search needs
+
+join-requires : tie.Need-join-requires
+join-requires c κs = search needs
+
+returns : tie.Need-returns
+returns c =
+    let x = c .before .before .before .before .args in
+    let s = x .samples .now in (
+      omega (arith, c .join .ensures .0, c .before .half .ensures, two-low s (x .cut) (x .tolerance) (x .from) (x .span) (omega arith)),
+      omega (arith, c .join .ensures .1, c .before .half .ensures, two-high s (x .cut) (x .tolerance) (x .from) (x .span) (omega arith)),
+    )
+
+half-requires-2 : tie.Need-half-requires-2
+half-requires-2 c κs = search needs
+
+add-half : tie.Need-add-half
+add-half c = search needs
+
+half-requires-3 : tie.Need-half-requires-3
+half-requires-3 c κs = search needs
+
+join-requires-2 : tie.Need-join-requires-2
+join-requires-2 c κs = search needs
+
+returns-2 : tie.Need-returns-2
+returns-2 c =
+    let x = c .before .before .before .before .before .args in
+    let s = x .samples .now in
+    let h = c .before .before .half2 in
+    let k = c .before .half3 in
+    let e : 32 + (x .span - 32) ≡ x .span = omega arith in (
+      c .join2 .ensures .0 ∙ joined-low s (x .cut) (x .tolerance) (x .from) (x .span - 32) (h .result) (k .result) (omega arith) (h .ensures) (k .ensures)
+          ∙ ap (λ (n : ℕ). wordOf n (bitsFrom s (thresholdBit (x .cut)) (x .from))) e,
+      c .join2 .ensures .1 ∙ joined-high s (x .cut) (x .tolerance) (x .from) (x .span - 32) (h .result) (k .result) (omega arith) (h .ensures) (k .ensures)
+          ∙ ap (λ (n : ℕ). wordOf n (bitsFrom s (exclusionBit (x .cut) (x .tolerance)) (x .from))) e,
+    )
+
+pub part-spec : {M : Type 1} → statement M
+part-spec =
+    tie.close
+    (tie.spec
+    half-requires
+    join-requires
+    returns
+    half-requires-2
+    add-half
+    half-requires-3
+    join-requires-2
+    returns-2)

@@ -1,0 +1,51 @@
+-- The code's answers in document 01's terms: each refusal's number and values, and each answer as accepted or refused.
+use Prim.Native.Nat.{ℕ}
+use mathlib.Core.List.{List, [], _∷_}
+use mathlib.Core.Bool.{Bool}
+use Rattle.definitions.specs.Shrink as halving
+use Rattle.definitions.specs.Refusals.{Answer, accepted, refused}
+use Rattle.mtb_align.specs.declared.error.Error.{Error}
+use Rattle.mtb_align.specs.declared.error.Error.the-variants.{Side, Length, Percentile, SizeMismatch, FrameMismatch, NoSuchReference, Frames, Scratch, Padding, Reach, Records, Outside, Coordinate}
+use Rattle.mtb_align.specs.declared.error.Outcome.{Outcome}
+use Rattle.mtb_align.specs.declared.error.Outcome.the-variants.{Done, Refused}
+
+-- 01's number of a refusal.
+abbrev pub numberOf : Error → ℕ
+numberOf Side = 1
+numberOf Length = 2
+numberOf Percentile = 3
+numberOf (SizeMismatch r t) = 4
+numberOf (FrameMismatch n t k) = 4
+numberOf (NoSuchReference r n) = 5
+numberOf Frames = 6
+numberOf Scratch = 7
+numberOf Padding = 8
+numberOf Reach = 9
+numberOf (Records n) = 10
+numberOf Outside = 11
+numberOf Coordinate = 12
+
+-- The values that come with it.
+abbrev pub valuesOf : Error → List ℕ
+valuesOf Side = []
+valuesOf Length = []
+valuesOf Percentile = []
+valuesOf (SizeMismatch r t) = r .width ∷ r .height ∷ t .width ∷ t .height ∷ []
+valuesOf (FrameMismatch n t k) = n .width ∷ n .height ∷ t .width ∷ t .height ∷ k ∷ []
+valuesOf (NoSuchReference r n) = r ∷ n ∷ []
+valuesOf Frames = []
+valuesOf Scratch = []
+valuesOf Padding = []
+valuesOf Reach = []
+valuesOf (Records n) = n ∷ []
+valuesOf Outside = []
+valuesOf Coordinate = []
+
+-- A refusal as an answer of any kind.
+abbrev pub refusal : {A : Type 0} → Error → Answer A
+refusal e = refused (numberOf e) (valuesOf e)
+
+-- A call that only writes.
+abbrev pub outcome : Outcome → Answer (Unit {0})
+outcome Done = accepted tt
+outcome (Refused e) = refusal e

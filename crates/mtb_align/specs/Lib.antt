@@ -1,0 +1,3 @@
+-- The code's answers in document 01's terms, and what its inner functions compute.
+pub mod Answers
+pub mod Packing

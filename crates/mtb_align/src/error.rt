@@ -1,0 +1,45 @@
+// Why a call is refused, and what a call that only writes answers.
+ghost use mathlib.Core.Path.{_≡_};
+ghost use Rattle.definitions.specs.Refusals.{eitherOver};
+
+// A frame's sides.
+pub struct Size {
+    pub width: usize,
+    pub height: usize,
+}
+
+// One case for each of document 01's numbers, with the values that it asks for; 4 has a case for two frames and one for a stack.
+pub enum Error {
+    Side,
+    Length,
+    Percentile,
+    // The reference's size, then the target's.
+    SizeMismatch(Size, Size),
+    // The neighbour's size, then that of the frame whose number follows.
+    FrameMismatch(Size, Size, usize),
+    // The reference, and how many frames there are.
+    NoSuchReference(usize, usize),
+    Frames,
+    Scratch,
+    Padding,
+    Reach,
+    // How many records are needed.
+    Records(u64),
+    Outside,
+    Coordinate,
+}
+
+pub enum Outcome {
+    Done,
+    Refused(Error),
+}
+
+// A side is over 8,192.
+pub(crate) fn side_over(width: usize, height: usize) -> bool
+    ensures { λ r. ⌜ r ≡ eitherOver width height ⌝ }
+{
+    if width > 8192 {
+        return true;
+    }
+    height > 8192
+}

@@ -1,0 +1,4 @@
+// The core of mtb-align, file by file: each module stands for the original's file of that name.
+pub mod error;
+pub mod gray;
+pub mod strips;

@@ -1,0 +1,217 @@
+// Loops over rows. Both bitmaps of a frame are packed in one pass: a table by value gives a sample's two bits, and 32 samples make
+// one number with both halves.
+ghost use mathlib.Core.Path.{_≡_};
+ghost use Prim.Native.Nat.{ℕ, _+_, _-_, _*_, _/_, _%_, _≤_, _<_};
+ghost use lib.Dec.{ltb};
+ghost use lib.ListN.{length, getD};
+ghost use lib.Seq.{sets};
+ghost use Rattle.definitions.specs.Sum.{bit};
+ghost use Rattle.definitions.specs.Threshold.{thresholdBit, exclusionBit};
+ghost use Rattle.definitions.specs.Bitmap.{wordsPerRow, bitmapWords, wordOf, packed};
+ghost use Rattle.definitions.specs.Difference.{bitmapsOf};
+ghost use Rattle.mtb_align.specs.Packing.{entryOf, tableOf, bitsFrom, twoOf, rowWords};
+
+// One word of each bitmap.
+pub(crate) struct Words {
+    pub threshold: u64,
+    pub exclusion: u64,
+}
+
+fn distance(a: u16, b: u16) -> u16
+    ensures { λ r. ⌜ r ≡ (a - b) + (b - a) ⌝ }
+{
+    if a < b {
+        return b - a;
+    }
+    a - b
+}
+
+// 1 where a exceeds b, else 0.
+fn exceeds(a: u16, b: u16) -> u64
+    ensures { λ r. ⌜ r ≡ bit (ltb b a) ⌝ }
+{
+    if a > b {
+        return 1;
+    }
+    0
+}
+
+// The two bits of a sample value.
+fn entry(value: u8, cut: u16, tolerance: u8) -> u64
+    ensures { λ r. ⌜ r ≡ entryOf cut tolerance value ⌝ }
+{
+    let level = value as u16;
+    let threshold = exceeds(level, cut);
+    let exclusion = exceeds(distance(level, cut), tolerance as u16);
+    threshold + exclusion * 4294967296
+}
+
+// The two bits of every sample value.
+pub(crate) fn fill_table(table: &mut [u64; 256], cut: u16, tolerance: u8)
+    requires { ⌜ length (now table) ≡ 256 ⌝ }
+    ensures { λ _. ⌜ now (table .exit) ≡ tableOf cut tolerance ⌝ }
+{
+    let mut v: usize = 0;
+    while v < 256 {
+        table[v] = entry(v as u8, cut, tolerance);
+        v += 1;
+    }
+}
+
+// The two bits of up to 32 samples.
+fn half(
+    samples: &[u8],
+    from: usize,
+    span: usize,
+    table: &[u64; 256],
+    cut: u16,
+    tolerance: u8,
+) -> u64
+    requires { ⌜ (span ≤ 32) × (from + span ≤ length (now samples)) × (now table ≡ tableOf cut tolerance) ⌝ }
+    ensures { λ r. ⌜ r ≡ twoOf (now (samples .entry)) cut tolerance from span ⌝ }
+{
+    let mut sum: u64 = 0;
+    let mut i: usize = 0;
+    while i < span {
+        sum += table[samples[from + i] as usize] << i;
+        i += 1;
+    }
+    sum
+}
+
+// Two halves, of 32 samples and of up to 32 more, as two words.
+fn join(a: u64, b: u64) -> Words
+    ensures { λ r. ⌜
+        (r .threshold ≡ a % 4294967296 + b % 4294967296 * 4294967296) × (r .exclusion ≡ a / 4294967296 + b / 4294967296 * 4294967296)
+        ⌝ }
+{
+    Words {
+        threshold: a % 4294967296 + b % 4294967296 * 4294967296,
+        exclusion: a / 4294967296 + b / 4294967296 * 4294967296,
+    }
+}
+
+// A full word of each bitmap.
+pub(crate) fn full(
+    samples: &[u8],
+    from: usize,
+    table: &[u64; 256],
+    cut: u16,
+    tolerance: u8,
+) -> Words
+    requires { ⌜ (from + 64 ≤ length (now samples)) × (now table ≡ tableOf cut tolerance) ⌝ }
+    ensures { λ r. ⌜
+        (r .threshold ≡ wordOf 64 (bitsFrom (now (samples .entry)) (thresholdBit cut) from))
+        × (r .exclusion ≡ wordOf 64 (bitsFrom (now (samples .entry)) (exclusionBit cut tolerance) from))
+        ⌝ }
+{
+    let a = half(samples, from, 32, table, cut, tolerance);
+    let b = half(samples, from + 32, 32, table, cut, tolerance);
+    join(a, b)
+}
+
+// The words of fewer than 64 samples.
+pub(crate) fn part(
+    samples: &[u8],
+    from: usize,
+    span: usize,
+    table: &[u64; 256],
+    cut: u16,
+    tolerance: u8,
+) -> Words
+    requires { ⌜ (span < 64) × (from + span ≤ length (now samples)) × (now table ≡ tableOf cut tolerance) ⌝ }
+    ensures { λ r. ⌜
+        (r .threshold ≡ wordOf span (bitsFrom (now (samples .entry)) (thresholdBit cut) from))
+        × (r .exclusion ≡ wordOf span (bitsFrom (now (samples .entry)) (exclusionBit cut tolerance) from))
+        ⌝ }
+{
+    if span < 32 {
+        return join(half(samples, from, span, table, cut, tolerance), 0);
+    }
+    let a = half(samples, from, 32, table, cut, tolerance);
+    let b = half(samples, from + 32, span - 32, table, cut, tolerance);
+    join(a, b)
+}
+
+// A row's words of both bitmaps, from the samples at `from` on, stored at `at`.
+fn pack_row(
+    samples: &[u8],
+    from: usize,
+    width: usize,
+    table: &[u64; 256],
+    cut: u16,
+    tolerance: u8,
+    threshold: &mut [u64],
+    exclusion: &mut [u64],
+    at: usize,
+)
+    requires { ⌜
+        (width ≤ 8192)
+        × (from + width ≤ length (now samples))
+        × (now table ≡ tableOf cut tolerance)
+        × (at + wordsPerRow width ≤ length (now threshold))
+        × (at + wordsPerRow width ≤ length (now exclusion))
+        ⌝ }
+    ensures { λ _. ⌜
+        (now (threshold .exit) ≡ sets (now (threshold .entry)) at (rowWords width (bitsFrom (now (samples .entry)) (thresholdBit cut) from)))
+        × (now (exclusion .exit) ≡ sets (now (exclusion .entry)) at (rowWords width (bitsFrom (now (samples .entry)) (exclusionBit cut tolerance) from)))
+        ⌝ }
+{
+    let n = width / 64;
+    let span = width % 64;
+    let mut k: usize = 0;
+    while k < n {
+        let b = full(samples, from + k * 64, table, cut, tolerance);
+        threshold[at + k] = b.threshold;
+        exclusion[at + k] = b.exclusion;
+        k += 1;
+    }
+    if span == 0 {
+        return;
+    }
+    let b = part(samples, from + n * 64, span, table, cut, tolerance);
+    threshold[at + n] = b.threshold;
+    exclusion[at + n] = b.exclusion;
+}
+
+// Both bitmaps of a frame at a cut and a tolerance.
+pub(crate) fn pack(
+    samples: &[u8],
+    width: usize,
+    height: usize,
+    cut: u16,
+    tolerance: u8,
+    threshold: &mut [u64],
+    exclusion: &mut [u64],
+)
+    requires { ⌜
+        (width ≤ 8192)
+        × (height ≤ 8192)
+        × (length (now samples) ≡ width * height)
+        × (length (now threshold) ≡ bitmapWords width height)
+        × (length (now exclusion) ≡ bitmapWords width height)
+        ⌝ }
+    ensures { λ _. ⌜
+        (now (threshold .exit) ≡ packed width height (bitmapsOf width (now (samples .entry)) cut tolerance .threshold))
+        × (now (exclusion .exit) ≡ packed width height (bitmapsOf width (now (samples .entry)) cut tolerance .exclusion))
+        ⌝ }
+{
+    let mut table = [0u64; 256];
+    fill_table(&mut table, cut, tolerance);
+    let n = (width + 63) / 64;
+    let mut y: usize = 0;
+    while y < height {
+        pack_row(
+            samples,
+            y * width,
+            width,
+            &table,
+            cut,
+            tolerance,
+            threshold,
+            exclusion,
+            y * n,
+        );
+        y += 1;
+    }
+}
