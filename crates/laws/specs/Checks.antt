@@ -183,6 +183,15 @@ refuses l new old e = (e, sym (after-refused (tt {0}) l new old (sym e)))
 pub accepts : {B : Type 0} (l : List Check) (new old : B) {x : B} → accepted (tt {0}) ≡ answer l tt → x ≡ new → (accepted (tt {0}) ≡ answer l tt) × (x ≡ after l new old)
 accepts l new old e p = (e, p ∙ sym (after-accepted (tt {0}) l new old (sym e)))
 
+-- and one that writes two
+pub refuses-two : {B C : Type 0} (l : List Check) (new old : B) (new′ old′ : C) {n : ℕ} {v : List ℕ} → refused n v ≡ answer l (tt {0})
+    → (refused n v ≡ answer l (tt {0})) × ((old ≡ after l new old) × (old′ ≡ after l new′ old′))
+refuses-two l new old new′ old′ e = (e, (refuses l new old e .1, refuses l new′ old′ e .1))
+
+pub accepts-two : {B C : Type 0} (l : List Check) (new old : B) (new′ old′ : C) {x : B} {y : C} → accepted (tt {0}) ≡ answer l tt → x ≡ new → y ≡ new′
+    → (accepted (tt {0}) ≡ answer l tt) × ((x ≡ after l new old) × (y ≡ after l new′ old′))
+accepts-two l new old new′ old′ e p q = (e, (accepts l new old e p .1, accepts l new′ old′ e q .1))
+
 -- ---- the record space of a report whose other checks pass: refused for space exactly if 20 times the records exceed it
 
 module _ {A : Type 0} (a : A) (before : List Check) (needed space : ℕ) (all : answer before a ≡ accepted a) where

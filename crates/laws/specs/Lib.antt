@@ -18,3 +18,4 @@ pub mod Sizes
 pub mod Members
 pub mod Records
 pub mod Verdicts
+pub mod Bitmaps

@@ -6,6 +6,14 @@ use Rattle.definitions.specs.Shrink as halving
 use Rattle.definitions.specs.Refusals.{Answer, accepted, refused}
 use Rattle.mtb_align.specs.declared.error.Error.{Error}
 use Rattle.mtb_align.specs.declared.error.Error.the-variants.{Side, Length, Percentile, SizeMismatch, FrameMismatch, NoSuchReference, Frames, Scratch, Padding, Reach, Records, Outside, Coordinate}
+use Rattle.mtb_align.specs.declared.bitmap.PixelAnswer.{PixelAnswer}
+use Rattle.mtb_align.specs.declared.bitmap.PixelAnswer.the-variants as pixels
+use Rattle.mtb_align.specs.declared.bitmap.TotalAnswer.{TotalAnswer}
+use Rattle.mtb_align.specs.declared.bitmap.TotalAnswer.the-variants as totals
+use Rattle.mtb_align.specs.declared.shrink.Shrink.{Shrink}
+use Rattle.mtb_align.specs.declared.shrink.Shrink.the-variants as modes
+use Rattle.mtb_align.specs.declared.threshold.CutAnswer.{CutAnswer}
+use Rattle.mtb_align.specs.declared.threshold.CutAnswer.the-variants as cuts
 use Rattle.mtb_align.specs.declared.error.Outcome.{Outcome}
 use Rattle.mtb_align.specs.declared.error.Outcome.the-variants.{Done, Refused}
 
@@ -49,3 +57,23 @@ refusal e = refused (numberOf e) (valuesOf e)
 abbrev pub outcome : Outcome → Answer (Unit {0})
 outcome Done = accepted tt
 outcome (Refused e) = refusal e
+
+-- A cut, 0 to 256.
+abbrev pub cutAnswer : CutAnswer → Answer ℕ
+cutAnswer (cuts.Cut c) = accepted c
+cutAnswer (cuts.Refused e) = refusal e
+
+-- A pixel, set or clear.
+abbrev pub pixelAnswer : PixelAnswer → Answer Bool
+pixelAnswer (pixels.Pixel b) = accepted b
+pixelAnswer (pixels.Refused e) = refusal e
+
+-- A number of set pixels.
+abbrev pub totalAnswer : TotalAnswer → Answer ℕ
+totalAnswer (totals.Total n) = accepted n
+totalAnswer (totals.Refused e) = refusal e
+
+-- How a frame is halved.
+abbrev pub modeOf : Shrink → halving.Shrink
+modeOf modes.Average = halving.average
+modeOf modes.Subsample = halving.subsample

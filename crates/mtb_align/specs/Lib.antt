@@ -1,3 +1,4 @@
 -- The code's answers in document 01's terms, and what its inner functions compute.
 pub mod Answers
 pub mod Packing
+pub mod Tally

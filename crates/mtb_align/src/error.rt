@@ -1,6 +1,7 @@
 // Why a call is refused, and what a call that only writes answers.
 ghost use mathlib.Core.Path.{_≡_};
 ghost use Rattle.definitions.specs.Refusals.{eitherOver};
+ghost use Rattle.mtb_align.specs.Answers.{numberOf};
 
 // A frame's sides.
 pub struct Size {
@@ -27,6 +28,29 @@ pub enum Error {
     Records(u64),
     Outside,
     Coordinate,
+}
+
+impl Error {
+    // Document 01's number.
+    pub fn number(self) -> u32
+        ensures { λ r. ⌜ r ≡ numberOf self ⌝ }
+    {
+        match self {
+            Error::Side => 1,
+            Error::Length => 2,
+            Error::Percentile => 3,
+            Error::SizeMismatch(_, _) => 4,
+            Error::FrameMismatch(_, _, _) => 4,
+            Error::NoSuchReference(_, _) => 5,
+            Error::Frames => 6,
+            Error::Scratch => 7,
+            Error::Padding => 8,
+            Error::Reach => 9,
+            Error::Records(_) => 10,
+            Error::Outside => 11,
+            Error::Coordinate => 12,
+        }
+    }
 }
 
 pub enum Outcome {

@@ -1,4 +1,7 @@
 // The core of mtb-align, file by file: each module stands for the original's file of that name.
+pub mod bitmap;
 pub mod error;
 pub mod gray;
+pub mod shrink;
 pub mod strips;
+pub mod threshold;

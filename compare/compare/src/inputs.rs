@@ -1,0 +1,140 @@
+//! Seeded pseudo-random sizes, shifts, bitmaps and options.
+
+use naive::align::Options;
+use naive::bitmap::packed;
+use naive::geometry::Shift;
+use naive::shrink::Shrink;
+
+/// SplitMix64: small, and the same on every machine.
+pub struct Random {
+    state: u64,
+}
+
+impl Random {
+    pub fn new(seed: u64) -> Self {
+        Self { state: seed }
+    }
+
+    pub fn word(&mut self) -> u64 {
+        self.state = self.state.wrapping_add(0x9E37_79B9_7F4A_7C15);
+        let mut word = self.state;
+        word = (word ^ (word >> 30)).wrapping_mul(0xBF58_476D_1CE4_E5B9);
+        word = (word ^ (word >> 27)).wrapping_mul(0x94D0_49BB_1331_11EB);
+        word ^ (word >> 31)
+    }
+
+    /// A number from 0 up to, not including, `bound`.
+    pub fn below(&mut self, bound: usize) -> usize {
+        (self.word() % bound as u64) as usize
+    }
+
+    /// A number from `low` to `high`, both included.
+    pub fn between(&mut self, low: i64, high: i64) -> i64 {
+        low + self.below((high - low + 1) as usize) as i64
+    }
+
+    pub fn one_in(&mut self, chances: usize) -> bool {
+        self.below(chances) == 0
+    }
+
+    pub fn byte(&mut self) -> u8 {
+        self.word() as u8
+    }
+
+    pub fn pick<T: Copy>(&mut self, from: &[T]) -> T {
+        from[self.below(from.len())]
+    }
+
+    pub fn bytes(&mut self, length: usize) -> Vec<u8> {
+        (0..length).map(|_| self.byte()).collect()
+    }
+}
+
+/// Widths about which packed rows and halving may go wrong.
+pub const EDGE_WIDTHS: [usize; 10] = [0, 1, 2, 3, 63, 64, 65, 127, 128, 129];
+pub const EDGE_HEIGHTS: [usize; 3] = [0, 1, 2];
+
+pub fn size(random: &mut Random, most_height: usize) -> (usize, usize) {
+    let width = match random.one_in(2) {
+        true => random.pick(&EDGE_WIDTHS),
+        false => random.below(180),
+    };
+    let height = match random.one_in(6) {
+        true => random.pick(&EDGE_HEIGHTS),
+        false => random.below(most_height + 1),
+    };
+    (width, height)
+}
+
+/// A coordinate for a side: small, within the frame, about a multiple of 64, at the
+/// edge, beyond the frame, or at the ends of i32.
+pub fn coordinate(random: &mut Random, side: usize) -> i32 {
+    let side = side as i64;
+    let coordinate = match random.below(12) {
+        0..4 => random.between(-6, 6),
+        4..6 => random.between(-side, side),
+        6..9 => {
+            let words = side / 64 + 1;
+            64 * random.between(-words, words) + random.between(-1, 1)
+        }
+        9 => random.pick(&[-1, 1]) * (side + random.between(-1, 1)),
+        10 => {
+            let ends = [i32::MIN, i32::MIN + 1, i32::MAX - 1, i32::MAX];
+            i64::from(random.pick(&ends))
+        }
+        _ => i64::from(random.word() as i32),
+    };
+    coordinate as i32
+}
+
+/// A shift whose rows mostly still meet, or the columns would hardly be tried.
+pub fn any_shift(random: &mut Random, (width, height): (usize, usize)) -> Shift {
+    let x = coordinate(random, width);
+    let y = match random.below(4) {
+        0 => coordinate(random, height),
+        1 => random.between(-(height as i64), height as i64) as i32,
+        _ => 0,
+    };
+    Shift::new(x, y)
+}
+
+/// How many of 16 bits a bitmap has set: any, or mostly set as exclusion bits are.
+pub const ANY: [usize; 5] = [0, 1, 8, 15, 16];
+pub const MOSTLY_SET: [usize; 5] = [4, 12, 14, 15, 16];
+
+/// A bitmap's words with clear padding.
+pub fn words(random: &mut Random, (width, height): (usize, usize), set: [usize; 5]) -> Vec<u64> {
+    let set = random.pick(&set);
+    let bits: Vec<bool> = (0..width * height)
+        .map(|_| random.below(16) < set)
+        .collect();
+    packed(width, height, |x, y| bits[y * width + x])
+}
+
+/// The words of two packed pairs: threshold and exclusion of either.
+pub fn two_pairs(random: &mut Random, size: (usize, usize)) -> [Vec<u64>; 4] {
+    [ANY, MOSTLY_SET, ANY, MOSTLY_SET].map(|set| words(random, size, set))
+}
+
+pub fn shrink(random: &mut Random) -> Shrink {
+    random.pick(&[Shrink::Average, Shrink::Subsample])
+}
+
+/// Mostly what a machine would be set to, now and then anything.
+pub fn options(random: &mut Random) -> Options {
+    Options {
+        bits: match random.one_in(4) {
+            true => random.pick(&[0, 1, 2, 31, 32, 64, u32::MAX]),
+            false => random.between(3, 8) as u32,
+        },
+        tolerance: match random.one_in(4) {
+            true => random.byte(),
+            false => random.pick(&[0, 2, 4, 8]),
+        },
+        percentile: match random.one_in(3) {
+            true => random.below(101) as u8,
+            false => random.pick(&[17, 50, 50, 83]),
+        },
+        shrink: shrink(random),
+    }
+}

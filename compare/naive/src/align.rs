@@ -1,0 +1,294 @@
+//! Pyramids, the step of two frames, and stacks.
+
+use crate::bitmap::words_needed;
+use crate::difference::counts;
+use crate::geometry::Shift;
+use crate::gray::Frame;
+use crate::refusals::{
+    MOST_FRAMES, NO_SUCH_REFERENCE, Refusal, SCRATCH_TOO_SHORT, SIZES_DIFFER, TOO_MANY_FRAMES,
+    WRONG_LENGTH, check_percentile, check_sides, refuse_if, refuse_with,
+};
+use crate::shrink::{Shrink, halved};
+use crate::threshold::BitFrame;
+
+/// How a search is run. Bits is any u32, tolerance any byte.
+#[derive(Clone, Copy, Debug)]
+pub struct Options {
+    pub bits: u32,
+    pub tolerance: u8,
+    pub percentile: u8,
+    pub shrink: Shrink,
+}
+
+/// The lengths of the scratch that a caller lends to a step, a stack or a report.
+#[derive(Clone, Copy, Debug, PartialEq, Eq)]
+pub struct Scratch {
+    pub bytes: usize,
+    pub words: usize,
+}
+
+impl Scratch {
+    pub const NONE: Self = Self { bytes: 0, words: 0 };
+
+    /// What a step of two frames of this size needs.
+    pub fn of_step(width: usize, height: usize, bits: u32) -> Self {
+        Self {
+            bytes: 2 * halved_samples(width, height, bits),
+            words: 4 * words_needed(width, height),
+        }
+    }
+
+    pub(crate) fn check(self, needed: Self) -> Result<(), Refusal> {
+        refuse_if(
+            self.bytes < needed.bytes || self.words < needed.words,
+            SCRATCH_TOO_SHORT,
+        )
+    }
+}
+
+/// L: how many times a frame is halved.
+fn levels(width: usize, height: usize, bits: u32) -> usize {
+    if width == 0 || height == 0 {
+        return 0;
+    }
+    let by_bits = bits.saturating_sub(1) as usize;
+    let by_longest = floor_log2(width.max(height)).saturating_sub(1);
+    let by_shortest = floor_log2(width.min(height));
+    by_bits.min(by_longest).min(by_shortest)
+}
+
+fn floor_log2(number: usize) -> usize {
+    let mut log = 0;
+    while 2 << log <= number {
+        log += 1;
+    }
+    log
+}
+
+/// The samples of one level. Halving a side again and again, rounding down each
+/// time, is one division.
+fn samples_of(width: usize, height: usize, level: usize) -> usize {
+    (width >> level) * (height >> level)
+}
+
+/// The samples of all halved levels.
+pub fn halved_samples(width: usize, height: usize, bits: u32) -> usize {
+    (1..=levels(width, height, bits))
+        .map(|level| samples_of(width, height, level))
+        .sum()
+}
+
+/// The frame and its halved levels.
+fn all_levels(frame: Frame, bits: u32, shrink: Shrink) -> Vec<Vec<u8>> {
+    let mut all = vec![frame.samples.to_vec()];
+    for level in 0..levels(frame.width, frame.height, bits) {
+        let finer = Frame::new(&all[level], frame.width >> level, frame.height >> level);
+        all.push(halved(finer, shrink));
+    }
+    all
+}
+
+/// The checks of both pyramid calls: 1, 2, 7.
+fn check_pyramid(frame: Frame, bits: u32, scratch: usize) -> Result<(), Refusal> {
+    check_sides(&[frame.width, frame.height])?;
+    refuse_if(!frame.is_whole(), WRONG_LENGTH)?;
+    let needed = halved_samples(frame.width, frame.height, bits);
+    refuse_if(scratch < needed, SCRATCH_TOO_SHORT)
+}
+
+/// Filling a frame's pyramid: answers with the bytes that the scratch then begins
+/// with. `scratch` is its length.
+pub fn pyramid(
+    frame: Frame,
+    bits: u32,
+    shrink: Shrink,
+    scratch: usize,
+) -> Result<Vec<u8>, Refusal> {
+    check_pyramid(frame, bits, scratch)?;
+    Ok(all_levels(frame, bits, shrink)[1..].concat())
+}
+
+/// Asking for a level: the frame itself, a part of the scratch, or the empty part.
+pub fn level<'a>(frame: Frame<'a>, bits: u32, scratch: &'a [u8], level: usize) -> &'a [u8] {
+    let refused = check_pyramid(frame, bits, scratch.len()).is_err();
+    if refused || level > levels(frame.width, frame.height, bits) {
+        return &[];
+    }
+    if level == 0 {
+        return frame.samples;
+    }
+    let samples = |level| samples_of(frame.width, frame.height, level);
+    let start = (1..level).map(samples).sum::<usize>();
+    &scratch[start..start + samples(level)]
+}
+
+/// A step: how far the target moves, and the number of comparisons made.
+#[derive(Clone, Copy, Debug, PartialEq, Eq)]
+pub struct Step {
+    pub shift: Shift,
+    pub comparisons: u64,
+}
+
+/// Step of two frames: 1, 3, 4, 2, 7.
+pub fn shift(
+    reference: Frame,
+    target: Frame,
+    options: &Options,
+    scratch: Scratch,
+) -> Result<Step, Refusal> {
+    let Frame { width, height, .. } = reference;
+    let sizes = [width, height, target.width, target.height];
+    check_sides(&sizes)?;
+    check_percentile(options.percentile)?;
+    refuse_with(sizes[..2] != sizes[2..], SIZES_DIFFER, &sizes)?;
+    refuse_if(!reference.is_whole() || !target.is_whole(), WRONG_LENGTH)?;
+    scratch.check(Scratch::of_step(width, height, options.bits))?;
+    Ok(step(reference, target, options))
+}
+
+/// The nine offsets around a shift: the centre, then column by column.
+fn candidates(around: Shift) -> Vec<Shift> {
+    let mut nine = vec![around];
+    for x in -1..=1 {
+        for y in -1..=1 {
+            if (x, y) != (0, 0) {
+                nine.push(Shift::new(around.x + x, around.y + y));
+            }
+        }
+    }
+    nine
+}
+
+fn step(reference: Frame, target: Frame, options: &Options) -> Step {
+    let seen = |frame: Frame| -> Vec<BitFrame> {
+        all_levels(frame, options.bits, options.shrink)
+            .iter()
+            .enumerate()
+            .map(|(level, samples)| {
+                let frame = Frame::new(samples, frame.width >> level, frame.height >> level);
+                BitFrame::of(frame, options.percentile, options.tolerance)
+            })
+            .collect()
+    };
+    step_at(0, &seen(reference), &seen(target))
+}
+
+/// The step at a level, from twice the step at the next coarser one.
+fn step_at(level: usize, reference: &[BitFrame], target: &[BitFrame]) -> Step {
+    let coarser = if level + 1 == reference.len() {
+        Step {
+            shift: Shift::ZERO,
+            comparisons: 0,
+        }
+    } else {
+        step_at(level + 1, reference, target)
+    };
+    let around = Shift::new(2 * coarser.shift.x, 2 * coarser.shift.y);
+    let best = candidates(around)
+        .into_iter()
+        .min_by_key(|&shift| counts(&reference[level], &target[level], shift).disagreeing)
+        .expect("there are nine"); // of equal ones, the first
+    Step {
+        shift: best,
+        comparisons: coarser.comparisons + 9,
+    }
+}
+
+/// A stack as a caller lends it: the frames' samples one after another, their
+/// sizes, and which of them is the reference.
+#[derive(Clone, Copy, Debug)]
+pub struct Stack<'a> {
+    pub samples: &'a [u8],
+    pub widths: &'a [usize],
+    pub heights: &'a [usize],
+    pub reference: usize,
+}
+
+impl<'a> Stack<'a> {
+    pub(crate) fn count(&self) -> usize {
+        self.widths.len()
+    }
+
+    /// One frame of a stack that has passed its checks, so all have one size.
+    pub(crate) fn frame(&self, number: usize) -> Frame<'a> {
+        let (width, height) = (self.widths[0], self.heights[0]);
+        let area = width * height;
+        Frame::new(&self.samples[number * area..][..area], width, height)
+    }
+
+    /// Each frame but the reference with its neighbour, in the order of the walk:
+    /// from the reference down to 0, then up.
+    pub(crate) fn walk(&self) -> Vec<(usize, usize)> {
+        let down = (0..self.reference).rev().map(|frame| (frame, frame + 1));
+        let up = (self.reference + 1..self.count()).map(|frame| (frame, frame - 1));
+        down.chain(up).collect()
+    }
+
+    /// The checks of a stack before scratch: 6, 2, 1, 3, 5, 4, 2. `room` is the
+    /// length of the shift list.
+    pub(crate) fn check(&self, percentile: u8, room: usize) -> Result<(), Refusal> {
+        let count = self.count();
+        refuse_if(
+            count > MOST_FRAMES || self.heights.len() > MOST_FRAMES,
+            TOO_MANY_FRAMES,
+        )?;
+        refuse_if(count != self.heights.len(), WRONG_LENGTH)?;
+        check_sides(&[self.widths, self.heights].concat())?;
+        check_percentile(percentile)?;
+        let chosen = [self.reference, count];
+        refuse_with(self.reference >= count, NO_SUCH_REFERENCE, &chosen)?;
+
+        let size = |frame: usize| [self.widths[frame], self.heights[frame]];
+        for (frame, neighbour) in self.walk() {
+            let [width, height] = size(neighbour);
+            let [own_width, own_height] = size(frame);
+            let values = [width, height, own_width, own_height, frame];
+            refuse_with(size(neighbour) != size(frame), SIZES_DIFFER, &values)?;
+        }
+
+        let samples = count * self.widths[0] * self.heights[0];
+        refuse_if(
+            self.samples.len() != samples || room != 2 * count,
+            WRONG_LENGTH,
+        )
+    }
+
+    /// What a stack that has passed its other checks needs: nothing with one frame.
+    pub(crate) fn scratch(&self, bits: u32) -> Scratch {
+        match self.count() {
+            1 => Scratch::NONE,
+            _ => Scratch::of_step(self.widths[0], self.heights[0], bits),
+        }
+    }
+
+    /// The step of each frame against its neighbour; (0, 0) for the reference.
+    pub(crate) fn steps(&self, options: &Options) -> Vec<Shift> {
+        let mut steps = vec![Shift::ZERO; self.count()];
+        for (frame, neighbour) in self.walk() {
+            steps[frame] = step(self.frame(neighbour), self.frame(frame), options).shift;
+        }
+        steps
+    }
+
+    /// The shift list: for each frame the sum of the steps on its way.
+    pub(crate) fn shifts(&self, steps: &[Shift]) -> Vec<i32> {
+        let mut shifts = steps.to_vec();
+        for (frame, neighbour) in self.walk() {
+            shifts[frame].x += shifts[neighbour].x;
+            shifts[frame].y += shifts[neighbour].y;
+        }
+        shifts.iter().flat_map(|shift| [shift.x, shift.y]).collect()
+    }
+}
+
+/// Stack: 6, 2, 1, 3, 5, 4, 2, 7. `room` is the length of the shift list.
+pub fn align_stack(
+    stack: Stack,
+    options: &Options,
+    room: usize,
+    scratch: Scratch,
+) -> Result<Vec<i32>, Refusal> {
+    stack.check(options.percentile, room)?;
+    scratch.check(stack.scratch(options.bits))?;
+    Ok(stack.shifts(&stack.steps(options)))
+}

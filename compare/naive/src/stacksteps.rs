@@ -1,0 +1,77 @@
+//! The program `stacksteps`, from its standard input to its standard output.
+
+use crate::align::{Options, Scratch, Stack};
+use crate::report::{RECORD_BYTES, Report, Rivalry, Room, report};
+use crate::shrink::Shrink;
+
+const SIDE: usize = 64;
+const MOST_FRAMES: usize = 8;
+pub const OPTIONS: Options = Options {
+    bits: 6,
+    tolerance: 4,
+    percentile: 50,
+    shrink: Shrink::Average,
+};
+pub const RIVALRY: Rivalry = Rivalry {
+    reach: 1,
+    floor: 1,
+    margin: 0,
+};
+
+/// The text for 64 by 64 frames, one after another.
+pub fn stacksteps(input: &[u8]) -> String {
+    let count = input.len() / (SIDE * SIDE);
+    if !input.len().is_multiple_of(SIDE * SIDE) || count > MOST_FRAMES {
+        return "bad input\n".to_string();
+    }
+    let stack = Stack {
+        samples: input,
+        widths: &vec![SIDE; count],
+        heights: &vec![SIDE; count],
+        reference: 0,
+    };
+    let room = Room {
+        shifts: 2 * count,
+        verdicts: count,
+        scratch: Scratch::of_step(SIDE, SIDE, OPTIONS.bits),
+        records: 9 * count * RECORD_BYTES, // all that a reach of 1 can find
+    };
+    match report(stack, &OPTIONS, &RIVALRY, room) {
+        Ok(report) => text(&report),
+        Err(refusal) => format!("refused {}\n", refusal.number),
+    }
+}
+
+fn text(report: &Report) -> String {
+    let crop = report.crop;
+    let mut text = format!(
+        "frames {} crop {} {} {} {}\n",
+        report.verdicts.len(),
+        crop.x,
+        crop.y,
+        crop.width,
+        crop.height
+    );
+    for (frame, (&verdict, shift)) in report
+        .verdicts
+        .iter()
+        .zip(report.shifts.chunks(2))
+        .enumerate()
+    {
+        let records: Vec<_> = report
+            .records
+            .iter()
+            .filter(|record| record.frame as usize == frame)
+            .collect();
+        let name = ["reference", "weak", "alone", "contested"][usize::from(verdict)];
+        let (x, y) = (shift[0], shift[1]);
+        text += &format!("{frame} {x} {y} {name} {}\n", records.len());
+        for record in records {
+            text += &format!(
+                "{} {} {} {} {}\n",
+                record.frame, record.x, record.y, record.disagreeing, record.compared
+            );
+        }
+    }
+    text
+}

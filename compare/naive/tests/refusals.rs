@@ -1,0 +1,352 @@
+//! Each refusal by its number, with the values it carries, and the order of checks.
+
+use naive::Refusal;
+use naive::align::{Options, Scratch, Stack, align_stack, level, pyramid, shift};
+use naive::bitmap::{Bitmap, count_ones, get, row, set};
+use naive::difference::{Counts, Pair, disagreement};
+use naive::geometry::{Shift, common_crop, shifted};
+use naive::gray::{Frame, from_rgb};
+use naive::report::{Rivalry, Room, report};
+use naive::shrink::{Shrink, shrink2};
+use naive::stacksteps::OPTIONS;
+use naive::threshold::{compute_bitmaps, threshold};
+
+const OVER: usize = 8193;
+const WRONG_PERCENTILE: Options = Options {
+    percentile: 101,
+    ..OPTIONS
+};
+
+fn refused<T: std::fmt::Debug>(answer: Result<T, Refusal>) -> u32 {
+    let refusal = answer.unwrap_err();
+    assert_eq!(refusal.values, [] as [u64; 0]);
+    refusal.number
+}
+
+fn pair(words: &[u64], width: usize, height: usize) -> Pair<'_> {
+    Pair {
+        threshold: words,
+        exclusion: words,
+        width,
+        height,
+    }
+}
+
+fn count(reference: Pair, target: Pair) -> Result<Counts, Refusal> {
+    disagreement(reference, target, Shift::ZERO)
+}
+
+/// A stack of frames of these sizes, each frame as many samples as it needs.
+struct Asked {
+    samples: usize,
+    widths: Vec<usize>,
+    heights: Vec<usize>,
+    reference: usize,
+    options: Options,
+    reach: u32,
+    room: Room,
+}
+
+impl Asked {
+    /// A stack of 4 by 4 frames that is accepted with nothing to spare.
+    fn accepted(count: usize) -> Self {
+        Self {
+            samples: 16 * count,
+            widths: vec![4; count],
+            heights: vec![4; count],
+            reference: 0,
+            options: OPTIONS,
+            reach: 0,
+            room: Room {
+                shifts: 2 * count,
+                verdicts: count,
+                scratch: match count {
+                    1 => Scratch::NONE,
+                    _ => Scratch {
+                        bytes: 8,
+                        words: 16,
+                    },
+                },
+                records: 0,
+            },
+        }
+    }
+
+    /// The answer of stack and report, which must refuse alike or both accept.
+    fn answer(&self) -> Result<(), Refusal> {
+        let samples = vec![0; self.samples];
+        let room = self.room;
+        let stack = self.stack(&samples);
+        let plain = align_stack(stack, &self.options, room.shifts, room.scratch);
+        let full = self.report();
+        assert_eq!(plain.map(|_| ()), full);
+        full
+    }
+
+    fn stack<'a>(&'a self, samples: &'a [u8]) -> Stack<'a> {
+        Stack {
+            samples,
+            widths: &self.widths,
+            heights: &self.heights,
+            reference: self.reference,
+        }
+    }
+
+    /// The answer of the report alone. With a floor past the frame it needs no record.
+    fn report(&self) -> Result<(), Refusal> {
+        self.report_with_floor(17)
+    }
+
+    fn report_with_floor(&self, floor: u32) -> Result<(), Refusal> {
+        let samples = vec![0; self.samples];
+        let rivalry = Rivalry {
+            reach: self.reach,
+            floor,
+            margin: 0,
+        };
+        report(self.stack(&samples), &self.options, &rivalry, self.room).map(|_| ())
+    }
+}
+
+#[test]
+fn the_limits_themselves_are_accepted() {
+    assert_eq!(threshold(Frame::new(&[3; 8192], 8192, 1), 100), Ok(4));
+    assert_eq!(threshold(Frame::new(&[3; 8192], 1, 8192), 0), Ok(0));
+    for frames in [1, 2, 16] {
+        assert_eq!(Asked::accepted(frames).answer(), Ok(()), "{frames}");
+    }
+    let mut farthest = Asked::accepted(2);
+    farthest.reach = 64;
+    assert_eq!(farthest.report(), Ok(()));
+}
+
+#[test]
+fn refusal_1_side_too_long() {
+    // The lists below have the lengths that the sides ask for, but for the last.
+    for (width, height) in [(OVER, 0), (0, OVER), (usize::MAX, usize::MAX)] {
+        let frame = Frame::new(&[], width, height);
+        let bitmap = Bitmap::new(&[], width, height);
+        assert_eq!(refused(from_rgb(&[], width, height, 0)), 1);
+        assert_eq!(refused(shrink2(frame, Shrink::Average, 0)), 1);
+        assert_eq!(refused(shifted(frame, Shift::ZERO, 0)), 1);
+        assert_eq!(refused(threshold(frame, 101)), 1);
+        assert_eq!(refused(compute_bitmaps(frame, 101, 4, [0, 0])), 1);
+        assert_eq!(refused(get(bitmap, 0, 0)), 1);
+        assert_eq!(refused(set(bitmap, 0, 0, true)), 1);
+        assert_eq!(refused(count_ones(bitmap)), 1);
+        assert_eq!(refused(common_crop(&[1], width, height)), 1);
+        assert_eq!(refused(pyramid(frame, 6, Shrink::Average, 0)), 1);
+        let sound = Frame::new(&[], 0, 0);
+        for (reference, target) in [(frame, sound), (sound, frame), (frame, frame)] {
+            let step = shift(reference, target, &WRONG_PERCENTILE, Scratch::NONE);
+            assert_eq!(refused(step), 1);
+        }
+        let (long, short) = (pair(&[], width, height), pair(&[1], 0, 0));
+        for (reference, target) in [(long, short), (short, long), (long, long)] {
+            assert_eq!(refused(count(reference, target)), 1);
+        }
+        let mut stack = Asked::accepted(2);
+        (stack.widths[1], stack.heights[1]) = (width, height);
+        stack.options = WRONG_PERCENTILE;
+        assert_eq!(refused(stack.answer()), 1);
+    }
+}
+
+#[test]
+fn refusal_2_wrong_length() {
+    let (right, wrong) = (Frame::new(&[0; 6], 3, 2), Frame::new(&[0; 5], 3, 2));
+    let short = Bitmap::new(&[0], 3, 2);
+    assert_eq!(refused(from_rgb(&[0; 17], 3, 2, 6)), 2);
+    assert_eq!(refused(from_rgb(&[0; 18], 3, 2, 7)), 2);
+    assert_eq!(refused(shrink2(wrong, Shrink::Subsample, 1)), 2);
+    assert_eq!(refused(shrink2(right, Shrink::Subsample, 2)), 2);
+    assert_eq!(refused(shifted(wrong, Shift::ZERO, 6)), 2);
+    assert_eq!(refused(shifted(right, Shift::ZERO, 5)), 2);
+    assert_eq!(refused(threshold(wrong, 101)), 2);
+    assert_eq!(refused(compute_bitmaps(wrong, 101, 4, [2, 2])), 2);
+    assert_eq!(refused(compute_bitmaps(right, 101, 4, [1, 2])), 2);
+    assert_eq!(refused(compute_bitmaps(right, 101, 4, [2, 3])), 2);
+    assert_eq!(refused(get(short, 3, 0)), 2);
+    assert_eq!(refused(set(short, 3, 0, false)), 2);
+    assert_eq!(refused(count_ones(Bitmap::new(&[8], 3, 2))), 2);
+    assert_eq!(refused(common_crop(&[1, 2, 3], 3, 2)), 2);
+    assert_eq!(refused(pyramid(wrong, 6, Shrink::Average, 0)), 2);
+    for (reference, target) in [(right, wrong), (wrong, right)] {
+        assert_eq!(
+            refused(shift(reference, target, &OPTIONS, Scratch::NONE)),
+            2
+        );
+    }
+    for wrong in 0..4 {
+        let words: Vec<&[u64]> = (0..4)
+            .map(|bitmap| if bitmap == wrong { &[8][..] } else { &[0, 0] })
+            .collect();
+        let pair = |first: usize| Pair {
+            threshold: words[first],
+            exclusion: words[first + 1],
+            width: 3,
+            height: 2,
+        };
+        assert_eq!(refused(count(pair(0), pair(2))), 2);
+    }
+
+    let mut unequal = Asked::accepted(2);
+    unequal.heights = vec![OVER; 3];
+    assert_eq!(refused(unequal.answer()), 2);
+    let mut samples = Asked::accepted(2);
+    (samples.samples, samples.room.scratch) = (33, Scratch::NONE);
+    assert_eq!(refused(samples.answer()), 2);
+    let mut shifts = Asked::accepted(2);
+    (shifts.room.shifts, shifts.room.scratch) = (3, Scratch::NONE);
+    assert_eq!(refused(shifts.answer()), 2);
+    let mut verdicts = Asked::accepted(2);
+    (verdicts.room.verdicts, verdicts.reach) = (3, 65);
+    assert_eq!(refused(verdicts.report()), 2);
+}
+
+#[test]
+fn refusal_3_no_percentile() {
+    let frame = Frame::new(&[1, 2], 2, 1);
+    let other = Frame::new(&[1, 2], 1, 2);
+    for percentile in [101, 255] {
+        assert_eq!(refused(threshold(frame, percentile)), 3);
+        assert_eq!(refused(compute_bitmaps(frame, percentile, 4, [1, 1])), 3);
+    }
+    let step = shift(frame, other, &WRONG_PERCENTILE, Scratch::NONE);
+    assert_eq!(refused(step), 3);
+    let mut stack = Asked::accepted(2);
+    (stack.options, stack.reference) = (WRONG_PERCENTILE, 2);
+    assert_eq!(refused(stack.answer()), 3);
+}
+
+#[test]
+fn refusal_4_sizes_differ() {
+    let (wide, high) = (Frame::new(&[], 3, 2), Frame::new(&[], 2, 3));
+    let step = shift(wide, high, &OPTIONS, Scratch::NONE);
+    assert_eq!(step, Err(Refusal::new(4, &[3, 2, 2, 3])));
+    let counted = count(pair(&[], 3, 2), pair(&[], 2, 3));
+    assert_eq!(counted, Err(Refusal::new(4, &[3, 2, 2, 3])));
+
+    // From 2 down to 0, then up: 0 comes before 3 and 4.
+    let mut stack = Asked::accepted(5);
+    (stack.reference, stack.samples) = (2, 0);
+    (stack.widths[0], stack.heights[4]) = (7, 9);
+    let first = Refusal::new(4, &[4, 4, 7, 4, 0]);
+    assert_eq!(stack.answer(), Err(first));
+    stack.widths[0] = 4;
+    let next = Refusal::new(4, &[4, 4, 4, 9, 4]);
+    assert_eq!(stack.answer(), Err(next));
+}
+
+#[test]
+fn refusal_5_no_such_reference() {
+    for (count, reference) in [(0, 0), (2, 2), (16, 4000)] {
+        let mut stack = Asked::accepted(count);
+        stack.reference = reference;
+        if count > 0 {
+            stack.widths[0] = 5;
+        }
+        let refusal = Refusal::new(5, &[reference, count]);
+        assert_eq!(stack.answer(), Err(refusal));
+    }
+}
+
+#[test]
+fn refusal_6_too_many_frames() {
+    assert_eq!(refused(Asked::accepted(17).answer()), 6);
+    let mut widths = Asked::accepted(16);
+    widths.widths.push(4);
+    assert_eq!(refused(widths.answer()), 6);
+    let mut heights = Asked::accepted(16);
+    heights.heights.push(4);
+    assert_eq!(refused(heights.answer()), 6);
+}
+
+#[test]
+fn refusal_7_scratch_too_short() {
+    let samples = [0; 16];
+    let frame = Frame::new(&samples, 4, 4);
+    assert_eq!(refused(pyramid(frame, 6, Shrink::Average, 3)), 7);
+    for scratch in [
+        Scratch {
+            bytes: 7,
+            words: 16,
+        },
+        Scratch {
+            bytes: 8,
+            words: 15,
+        },
+    ] {
+        assert_eq!(refused(shift(frame, frame, &OPTIONS, scratch)), 7);
+        let mut stack = Asked::accepted(2);
+        stack.room.scratch = scratch;
+        assert_eq!(refused(stack.answer()), 7);
+        assert_eq!(refused(stack.report_with_floor(0)), 7);
+    }
+}
+
+#[test]
+fn refusal_8_padding_set() {
+    assert_eq!(refused(count_ones(Bitmap::new(&[0, 8], 3, 2))), 8);
+    let (clear, set) = (pair(&[0, 7], 3, 2), pair(&[8, 0], 3, 2));
+    assert_eq!(refused(count(clear, set)), 8);
+    assert_eq!(refused(count(set, clear)), 8);
+    // A full last word has no padding.
+    assert_eq!(count_ones(Bitmap::new(&[u64::MAX], 64, 1)), Ok(64));
+}
+
+#[test]
+fn refusal_9_reach_too_far() {
+    let mut stack = Asked::accepted(2);
+    (stack.reach, stack.room.scratch) = (65, Scratch::NONE);
+    assert_eq!(refused(stack.report()), 9);
+}
+
+#[test]
+fn refusal_10_record_space_too_short() {
+    // Of the window of 3 by 3 all are rivals when nothing need be compared.
+    let mut stack = Asked::accepted(3);
+    stack.reach = 1;
+    for (space, answer) in [(359, Err(Refusal::new(10, &[18]))), (360, Ok(()))] {
+        stack.room.records = space;
+        assert_eq!(stack.report_with_floor(0), answer);
+    }
+}
+
+#[test]
+fn refusal_11_pixel_outside() {
+    let bitmap = Bitmap::new(&[0, 0], 3, 2);
+    for (x, y) in [(3, 0), (0, 2), (63, 1)] {
+        assert_eq!(refused(get(bitmap, x, y)), 11);
+        assert_eq!(refused(set(bitmap, x, y, true)), 11);
+    }
+}
+
+#[test]
+fn refusal_12_coordinate_outside() {
+    let half = 1 << 30;
+    assert_eq!(refused(Shift::new(half, 0).doubled()), 12);
+    assert_eq!(refused(Shift::new(0, -half - 1).doubled()), 12);
+    let lowest = Shift::new(i32::MIN, i32::MAX - 1);
+    assert_eq!(Shift::new(-half, half - 1).doubled(), Ok(lowest));
+    assert_eq!(refused(Shift::new(i32::MAX, 0).offset(1, 0)), 12);
+    assert_eq!(refused(Shift::new(0, i32::MIN).offset(0, -1)), 12);
+}
+
+#[test]
+fn rows_and_levels_are_empty_where_others_refuse() {
+    let words = [1, 2];
+    assert_eq!(row(Bitmap::new(&words, 3, 2), 1), [2]);
+    for (width, height, y) in [(OVER, 1, 0), (3, 3, 0), (3, 2, 2), (0, 2, 0)] {
+        assert_eq!(row(Bitmap::new(&words, width, height), y), []);
+    }
+
+    let (samples, scratch) = ([5; 16], [6, 7, 8, 9, 10]);
+    let frame = Frame::new(&samples, 4, 4);
+    assert_eq!(level(frame, 6, &scratch, 0), samples);
+    assert_eq!(level(frame, 6, &scratch, 1), [6, 7, 8, 9]);
+    assert_eq!(level(frame, 6, &scratch, 2), []);
+    assert_eq!(level(frame, 6, &scratch[..3], 0), []);
+    assert_eq!(level(Frame::new(&samples[..15], 4, 4), 6, &scratch, 0), []);
+    assert_eq!(level(Frame::new(&samples, OVER, 4), 6, &scratch, 0), []);
+}

@@ -1,0 +1,135 @@
+//! A case as one line of whole numbers: the input, then the answer.
+
+use std::fmt::{Display, Write};
+
+use naive::Refusal;
+use naive::align::Step;
+use naive::difference::Counts;
+use naive::geometry::{Crop, Shift};
+use naive::gray::Frame;
+use naive::report::Report;
+use naive::threshold::Packed;
+
+#[derive(Default)]
+pub struct Line {
+    text: String,
+}
+
+impl Line {
+    pub fn new() -> Self {
+        Self::default()
+    }
+
+    pub fn number(mut self, number: impl Display) -> Self {
+        let blank = if self.text.is_empty() { "" } else { " " };
+        write!(self.text, "{blank}{number}").expect("a string takes all");
+        self
+    }
+
+    pub fn numbers(self, numbers: impl IntoIterator<Item = impl Display>) -> Self {
+        numbers.into_iter().fold(self, Self::number)
+    }
+
+    /// A list, its length first.
+    pub fn list(self, list: &[impl Display]) -> Self {
+        self.number(list.len()).numbers(list)
+    }
+
+    /// A frame as a call takes it: samples, width, height.
+    pub fn frame(self, frame: Frame) -> Self {
+        self.list(frame.samples)
+            .numbers([frame.width, frame.height])
+    }
+
+    pub fn shift(self, shift: Shift) -> Self {
+        self.numbers([shift.x, shift.y])
+    }
+
+    /// Ends the line with 0 and the output, or with the refusal.
+    pub fn answer<T: Output>(self, answer: Result<T, Refusal>) -> Answered {
+        match answer {
+            Ok(output) => Answered {
+                status: 0,
+                line: output.write(self.number(0)).text,
+            },
+            Err(refusal) => Answered {
+                status: refusal.number,
+                line: self.number(refusal.number).list(&refusal.values).text,
+            },
+        }
+    }
+}
+
+/// A whole line, and the status that its answer begins with.
+pub struct Answered {
+    pub status: u32,
+    pub line: String,
+}
+
+/// What an accepted call hands back, as numbers.
+pub trait Output {
+    fn write(&self, line: Line) -> Line;
+}
+
+impl<T: Display> Output for Vec<T> {
+    fn write(&self, line: Line) -> Line {
+        line.list(self)
+    }
+}
+
+impl Output for u16 {
+    fn write(&self, line: Line) -> Line {
+        line.number(self)
+    }
+}
+
+impl Output for u64 {
+    fn write(&self, line: Line) -> Line {
+        line.number(self)
+    }
+}
+
+impl Output for bool {
+    fn write(&self, line: Line) -> Line {
+        line.number(u8::from(*self))
+    }
+}
+
+impl Output for Shift {
+    fn write(&self, line: Line) -> Line {
+        line.shift(*self)
+    }
+}
+
+impl Output for Crop {
+    fn write(&self, line: Line) -> Line {
+        line.numbers([self.x, self.y, self.width, self.height])
+    }
+}
+
+impl Output for Packed {
+    fn write(&self, line: Line) -> Line {
+        line.list(&self.threshold).list(&self.exclusion)
+    }
+}
+
+impl Output for Counts {
+    fn write(&self, line: Line) -> Line {
+        line.numbers([self.disagreeing, self.compared])
+    }
+}
+
+impl Output for Step {
+    fn write(&self, line: Line) -> Line {
+        line.shift(self.shift).number(self.comparisons)
+    }
+}
+
+impl Output for Report {
+    fn write(&self, line: Line) -> Line {
+        let bytes: Vec<u8> = self.records.iter().flat_map(|r| r.bytes()).collect();
+        let line = line.list(&self.shifts).list(&self.verdicts);
+        let line = self.crop.write(line);
+        line.number(self.records.len()).list(&bytes)
+    }
+}

@@ -1,0 +1,213 @@
+-- Packed bitmaps: how many words a row has, the bits of a word by column, one bit of a word changed, the padding, and the set
+-- bits of all words, which are the set pixels where the padding is clear. Assumes nothing.
+use mathlib.Core.Path.{_≡_, refl, sym, ap, ap₂, _∙_}
+use mathlib.Core.Bool.{Bool, cond}
+use mathlib.Core.List.{List}
+use mathlib.Core.Logic.{⊎-elim}
+use Prim.Native.Nat.{ℕ, zero, suc, _+_, _-_, _*_, _/_, _%_, _^_, _≤_, _<_, max}
+use native.Mathlib.Nat.{le-trans, mul-le-mul-left, mul-le-mul-right, mod-lt, mod-eq-of-lt}
+use native.Mathlib.Omega.{arith}
+use borrow.Author.Tests.{eq-eqb, ne-eqb}
+use lib.Bits.{bitAnd, bitOr, bitXor, differ, and-mask, or-lt, xor-lt}
+use lib.Dec.{eqb}
+use lib.ListN.{length, getD, drop, length-take, length-drop, List·getD-eq-default}
+use lib.Pow.{pow-pos}
+use lib.Seq.{getD-take, getD-drop}
+use Rattle.definitions.specs.Sum.{sum}
+use Rattle.definitions.specs.Bitmap.{wordsPerRow, bitmapWords, bitOf, wordOf, wordAt, bitAt, total, paddingSet, rowOf}
+use Rattle.laws.specs.Bits.{bit-lt, bit-past, bit-shr, bit-or, bit-xor, bit-one-at, bit-one-off}
+use Rattle.laws.specs.Cases.{lt-or-le, eq-or-ne}
+use Rattle.laws.specs.Sizes.{row-inside}
+use Rattle.laws.specs.Sums.{sum-ext, sum-split, sum-upto, sum-zero, sum-rows, sum-none-in}
+use Rattle.laws.specs.WordsOf.{word-ext, word-bits}
+
+-- ---- the words of a row
+
+-- a row's words hold its columns
+pub columns-fit : (w : ℕ) → w ≤ wordsPerRow w * 64
+unfolding wordsPerRow
+columns-fit w = omega arith
+
+pub words-most : (w : ℕ) → w ≤ 8192 → wordsPerRow w ≤ 128
+unfolding wordsPerRow
+words-most w l = omega arith
+
+pub bitmap-most : (w h : ℕ) → w ≤ 8192 → h ≤ 8192 → bitmapWords w h ≤ 1048576
+bitmap-most w h p q = le-trans (mul-le-mul-left h (words-most w p)) (mul-le-mul-right 128 q)
+
+-- the word of a pixel lies in its row
+pub word-inside : (w x : ℕ) → x < w → x / 64 < wordsPerRow w
+unfolding wordsPerRow
+word-inside w x l = omega arith
+
+-- and so does the word of a row's first padding bit, where it has one
+pub last-inside : (w : ℕ) → (w % 64 ≡ 0 → ⊥) → w / 64 < wordsPerRow w
+unfolding wordsPerRow
+last-inside w ne = omega arith
+
+-- ---- the bits of a word
+
+-- `(v >> i) & 1`
+pub bit-test : (v i : ℕ) → bitAnd (v / 2 ^ i) 1 ≡ bitOf v i
+unfolding bitOf
+bit-test v i = and-mask (v / 2 ^ i) 1
+
+-- column x of the words that f gives, 64 to a word, the lowest bit first
+abbrev pub column : (ℕ → ℕ) → ℕ → ℕ
+column f x = bitOf (f (x / 64)) (x % 64)
+
+-- bit i of word k is a column
+pub column-word : (f : ℕ → ℕ) (k i : ℕ) → i < 64 → bitOf (f k) i ≡ column f (k * 64 + i)
+column-word f k i l =
+    let a : k ≡ (k * 64 + i) / 64 = omega arith in
+    let b : i ≡ (k * 64 + i) % 64 = omega arith in
+    ap₂ (λ (p q : ℕ). bitOf (f p) q) a b
+
+-- and of word k of row y it is the bitmap's
+pub word-bit : (words : List ℕ) (w k y i : ℕ) → i < 64 → bitOf (getD words (y * wordsPerRow w + k) 0) i ≡ bitAt words w (k * 64 + i) y
+unfolding bitAt
+word-bit words w k y i l = column-word (λ (p : ℕ). getD words (y * wordsPerRow w + p) 0) k i l
+
+-- ---- one bit changed
+
+-- the word v with bit i set to b
+abbrev pub withOne : ℕ → ℕ → ℕ → ℕ
+withOne v i b = wordOf 64 (λ (k : ℕ). cond (eqb k i) b (bitOf v k))
+
+-- `1 << i`
+abbrev pub oneAt : ℕ → ℕ
+oneAt i = (1 * 2 ^ i) % 2 ^ 64
+
+differ-none : (a : ℕ) → differ a 0 ≡ a
+differ-none zero = refl
+differ-none (suc a) = refl
+
+-- a word is made of what its bits are
+pub word-is : (n r : ℕ) (f : ℕ → ℕ) → r < 2 ^ n → ((k : ℕ) → k < n → bitOf r k ≡ f k) → r ≡ wordOf n f
+word-is n r f l h = sym (mod-eq-of-lt l) ∙ sym (word-bits n r) ∙ word-ext n (bitOf r) f h
+
+module _ (v i : ℕ) (fits : v < 2 ^ 64) (l : i < 64) where
+  -- a word r with bit b at i and v's bits elsewhere
+  pub with-one : (r b : ℕ) → r < 2 ^ 64 → bitOf r i ≡ b → ((k : ℕ) → k < 64 → (k ≡ i → ⊥) → bitOf r k ≡ bitOf v k) → r ≡ withOne v i b
+  with-one r b f at rest = word-is 64 r (λ (k : ℕ). cond (eqb k i) b (bitOf v k)) f (λ k m. ⊎-elim
+      (λ (e : k ≡ i). ap (bitOf r) e ∙ at ∙ sym (ap (λ (t : Bool). cond t b (bitOf v k)) (eq-eqb k i e)))
+      (λ (e : k ≡ i → ⊥). rest k m e ∙ sym (ap (λ (t : Bool). cond t b (bitOf v k)) (ne-eqb k i e)))
+      (eq-or-ne k i))
+
+  one-fits : oneAt i < 2 ^ 64
+  one-fits = mod-lt (1 * 2 ^ i) (pow-pos 64)
+
+  -- `v | (1 << i)`
+  pub with-set : bitOr v (oneAt i) ≡ withOne v i 1
+  with-set =
+      with-one (bitOr v (oneAt i)) 1 (or-lt 64 v (oneAt i) fits one-fits)
+      (bit-or v (oneAt i) i ∙ ap (max (bitOf v i)) (bit-one-at 64 i l) ∙ omega (arith, bit-lt v i))
+      (λ k m ne. bit-or v (oneAt i) k ∙ ap (max (bitOf v k)) (bit-one-off 64 i k m ne) ∙ omega arith)
+
+  -- `v ^ (1 << i)`, where the bit is set
+  pub with-cleared : bitOf v i ≡ 1 → bitXor v (oneAt i) ≡ withOne v i 0
+  with-cleared e =
+      with-one (bitXor v (oneAt i)) 0 (xor-lt 64 v (oneAt i) fits one-fits)
+      (bit-xor v (oneAt i) i ∙ ap₂ differ e (bit-one-at 64 i l))
+      (λ k m ne. bit-xor v (oneAt i) k ∙ ap (differ (bitOf v k)) (bit-one-off 64 i k m ne) ∙ differ-none (bitOf v k))
+
+  -- v itself, where it is clear
+  pub with-kept : (bitOf v i ≡ 1 → ⊥) → v ≡ withOne v i 0
+  with-kept ne = with-one v 0 fits (omega (arith, ne, bit-lt v i)) (λ k m _. refl)
+
+-- ---- padding
+
+-- the padding bits of row y
+abbrev pub paddingIn : List ℕ → ℕ → ℕ → ℕ
+paddingIn words w y = sum (wordsPerRow w * 64 - w) (λ (i : ℕ). bitAt words w (w + i) y)
+
+-- a row of whole words has none
+pub padding-none : (words : List ℕ) (w h : ℕ) → w % 64 ≡ 0 → 0 ≡ paddingSet words w h
+unfolding paddingSet wordsPerRow
+padding-none words w h e =
+    sym (sum-zero h (paddingIn words w) (λ y _. sum-zero (wordsPerRow w * 64 - w) (λ (i : ℕ). bitAt words w (w + i) y) (λ i l. absurd (omega arith))))
+
+-- another has those of its last word that are left once its pixels are shifted out
+pub padding-row : (words : List ℕ) (w y : ℕ) → getD words (wordAt w w y) 0 < 2 ^ 64 → (w % 64 ≡ 0 → ⊥)
+    → sum 64 (bitOf (getD words (wordAt w w y) 0 / 2 ^ (w % 64))) ≡ paddingIn words w y
+unfolding wordsPerRow
+padding-row words w y f ne =
+    let v = getD words (wordAt w w y) 0 in
+    let s = w % 64 in
+    let e : 64 - s ≡ wordsPerRow w * 64 - w = omega arith in
+    sum-upto (64 - s) 64 (bitOf (v / 2 ^ s)) (omega arith) (λ i g l. bit-shr v s i ∙ bit-past 64 v (s + i) f (omega arith))
+    ∙ sum-ext (64 - s) (bitOf (v / 2 ^ s)) (λ (i : ℕ). bitAt words w (w + i) y)
+    (λ i l.
+    let p : w + i ≡ w / 64 * 64 + (s + i) = omega arith in
+    bit-shr v s i ∙ word-bit words w (w / 64) y (s + i) (omega arith) ∙ ap (λ (x : ℕ). bitAt words w x y) (sym p))
+    ∙ ap (λ (k : ℕ). sum k (λ (i : ℕ). bitAt words w (w + i) y)) e
+
+-- the words of a bitmap of w by h: as many as it has, with clear padding
+pub record IsBitmap (words : List ℕ) (w h : ℕ) : Type 0 where
+  pub long : length words ≡ bitmapWords w h
+  pub clear : (x y : ℕ) → w ≤ x → x < wordsPerRow w * 64 → y < h → bitAt words w x y ≡ 0
+
+-- what the checks 2 and 8 give
+pub padding-clear : (words : List ℕ) (w h : ℕ) → length words ≡ bitmapWords w h → paddingSet words w h ≡ 0 → IsBitmap words w h
+unfolding paddingSet
+padding-clear words w h e z = record {
+  long = e;
+  clear = λ x y g l k.
+      let p : x ≡ w + (x - w) = omega arith in
+      ap (λ (u : ℕ). bitAt words w u y) p
+      ∙ sum-none-in (wordsPerRow w * 64 - w) (λ (i : ℕ). bitAt words w (w + i) y) (sum-none-in h (paddingIn words w) z y k) (x - w) (omega arith);
+}
+
+-- ---- the set bits of whole words
+
+-- of the words of row y: its pixels, where the padding is clear
+pub row-total : {words : List ℕ} {w h : ℕ} → IsBitmap words w h → (y : ℕ) → y < h
+    → sum (wordsPerRow w) (λ (k : ℕ). sum 64 (bitOf (getD words (y * wordsPerRow w + k) 0))) ≡ sum w (λ (x : ℕ). bitAt words w x y)
+row-total {words} {w} {h} m y l =
+    let n = wordsPerRow w in
+    sum-ext n (λ (k : ℕ). sum 64 (bitOf (getD words (y * n + k) 0))) (λ (k : ℕ). sum 64 (λ (i : ℕ). bitAt words w (k * 64 + i) y))
+    (λ k _. sum-ext 64 (bitOf (getD words (y * n + k) 0)) (λ (i : ℕ). bitAt words w (k * 64 + i) y) (λ i g. word-bit words w k y i g))
+    ∙ sym (sum-rows n 64 (λ (x : ℕ). bitAt words w x y))
+    ∙ sum-upto w (n * 64) (λ (x : ℕ). bitAt words w x y) (columns-fit w) (λ x g k. m .clear x y g k l)
+
+-- of all words: the bitmap's total
+pub all-total : {words : List ℕ} {w h : ℕ} → IsBitmap words w h → sum (length words) (λ (k : ℕ). sum 64 (bitOf (getD words k 0))) ≡ total words w h
+unfolding total
+all-total {words} {w} {h} m =
+    let f : ℕ → ℕ = λ k. sum 64 (bitOf (getD words k 0)) in
+    ap (λ (n : ℕ). sum n f) (m .long)
+    ∙ sum-rows h (wordsPerRow w) f
+    ∙ sum-ext h (λ (y : ℕ). sum (wordsPerRow w) (λ (k : ℕ). f (y * wordsPerRow w + k))) (λ (y : ℕ). sum w (λ (x : ℕ). bitAt words w x y)) (row-total m)
+
+-- ---- a row as a part, by its columns
+
+-- column x of a row of words: 0 past its last word
+abbrev pub rowBit : List ℕ → ℕ → ℕ
+rowBit row x = column (λ (k : ℕ). getD row k 0) x
+
+pub row-length : (words : List ℕ) (w h y : ℕ) → length words ≡ bitmapWords w h → y < h → length (rowOf words w y) ≡ wordsPerRow w
+unfolding rowOf
+row-length words w h y e l = rw (length-take, length-drop) (omega (arith, row-inside (wordsPerRow w) h y l))
+
+-- the columns of row y are the bitmap's
+pub row-bit : (words : List ℕ) (w x y : ℕ) → x < wordsPerRow w * 64 → rowBit (rowOf words w y) x ≡ bitAt words w x y
+unfolding rowOf bitAt
+row-bit words w x y l =
+    ap (λ (v : ℕ). bitOf v (x % 64))
+    (getD-take (wordsPerRow w) (drop (y * wordsPerRow w) words) (x / 64) 0 (omega arith) ∙ getD-drop (y * wordsPerRow w) words (x / 64) 0)
+
+-- and none is set from w on
+pub row-clear : {words : List ℕ} {w h : ℕ} → IsBitmap words w h → (y : ℕ) → y < h → (x : ℕ) → w ≤ x → rowBit (rowOf words w y) x ≡ 0
+row-clear {words} {w} {h} m y l x g = ⊎-elim
+    (λ (k : x < wordsPerRow w * 64). row-bit words w x y k ∙ m .clear x y g k l)
+    (λ (k : wordsPerRow w * 64 ≤ x).
+    let e = row-length words w h y (m .long) l in
+    ap (λ (v : ℕ). bitOf v (x % 64)) (List·getD-eq-default {A = ℕ} (rowOf words w y) 0 {n = x / 64} (omega arith))
+    ∙ bit-past 0 0 (x % 64) (omega arith) (omega arith))
+    (lt-or-le x (wordsPerRow w * 64))
+
+-- a loop that counts the set columns of f a word at a time: one word more, whose bits are g
+pub count-word : (f g : ℕ → ℕ) (k : ℕ) → ((i : ℕ) → i < 64 → g i ≡ f (k * 64 + i)) → sum (k * 64) f + sum 64 g ≡ sum ((k + 1) * 64) f
+count-word f g k h =
+    let n : (k + 1) * 64 ≡ k * 64 + 64 = omega arith in
+    ap (λ (x : ℕ). sum (k * 64) f + x) (sum-ext 64 g (λ (i : ℕ). f (k * 64 + i)) h) ∙ sym (sum-split (k * 64) 64 f) ∙ ap (λ (x : ℕ). sum x f) (sym n)

@@ -1,0 +1,16 @@
+-- `mtb_align::bitmap::words_per_row` meets its contract. Assumes nothing.
+use mathlib.Core.Path.{refl}
+use borrow.Author.Needs.{needs}
+use Rattle.definitions.specs.Bitmap.{wordsPerRow}
+use Rattle.mtb_align.proofs.bitmap.words_per_row.Statement.{statement}
+use Rattle.mtb_align.proofs.bitmap.words_per_row.Tie as tie
+
+add-result : tie.Need-add-result
+add-result c = search needs
+
+returns : tie.Need-returns
+unfolding wordsPerRow
+returns c = refl
+
+pub words-per-row-spec : {M : Type 1} → statement M
+words-per-row-spec = tie.close (tie.spec add-result returns)

@@ -1,0 +1,128 @@
+-- `mtb_align::shrink::average_row` meets its contract. The loop has stored the first x samples of the row. Assumes nothing.
+use mathlib.Core.Path.{_≡_, _∙_}
+use mathlib.Core.List.{List}
+use Prim.Native.Nat.{ℕ, _+_, _-_, _*_, _/_, _≤_}
+use native.Mathlib.Omega.{arith}
+use lib.ListN.{getD}
+use Rattle.definitions.specs.Shrink.{mean, average, halvedSample}
+use Rattle.mtb_align.proofs.Halves.{Samples, no-samples, one-sample}
+use Rattle.mtb_align.proofs.shrink.average_row.Statement.{statement}
+use Rattle.mtb_align.proofs.shrink.average_row.Tie as tie
+
+-- the mean that the code takes
+mean-is : (s : List ℕ) (w x y : ℕ)
+    → mean (getD s (2 * y * w + 2 * x) 0) (getD s (2 * y * w + 2 * x + 1) 0) (getD s (2 * y * w + w + 2 * x) 0) (getD s (2 * y * w + w + 2 * x + 1) 0)
+    ≡ halvedSample average s w x y
+unfolding halvedSample
+mean-is s w x y =
+    let right : 2 * y * w + 2 * x + 1 ≡ 2 * y * w + (2 * x + 1) = omega arith in
+    let under : 2 * y * w + w + 2 * x ≡ (2 * y + 1) * w + 2 * x = omega arith in
+    let last : 2 * y * w + w + 2 * x + 1 ≡ (2 * y + 1) * w + (2 * x + 1) = omega arith in
+    cc
+
+abbrev Inv-loop : tie.InvT-loop
+Inv-loop samples width y out₀ at n top bottom x₀ out x = (x ≤ n) × Samples average samples width y at out₀ out x
+
+abbrev μ-loop : tie.MeasureT-loop
+μ-loop samples width y out₀ at n top bottom x₀ out x = n - x
+
+mul-top : tie.Need-mul-top Inv-loop μ-loop
+mul-top c = omega arith
+
+mul-top-2 : tie.Need-mul-top-2 Inv-loop μ-loop
+mul-top-2 c = omega arith
+
+add-bottom : tie.Need-add-bottom Inv-loop μ-loop
+add-bottom c = omega arith
+
+loop-holds : tie.Need-loop-holds Inv-loop μ-loop
+loop-holds c = (omega arith, no-samples _ _ _ _ _ _)
+
+mul-left : tie.Need-mul-left Inv-loop μ-loop
+mul-left c = omega arith
+
+add-mean-of : tie.Need-add-mean-of Inv-loop μ-loop
+add-mean-of c = omega arith
+
+shared-slice-read-mean-of : tie.Need-shared-slice-read-mean-of Inv-loop μ-loop
+shared-slice-read-mean-of c = omega arith
+
+add-mean-of-2 : tie.Need-add-mean-of-2 Inv-loop μ-loop
+add-mean-of-2 c = omega arith
+
+add-mean-of-3 : tie.Need-add-mean-of-3 Inv-loop μ-loop
+add-mean-of-3 c = omega arith
+
+shared-slice-read-mean-of-2 : tie.Need-shared-slice-read-mean-of-2 Inv-loop μ-loop
+shared-slice-read-mean-of-2 c = omega arith
+
+add-mean-of-4 : tie.Need-add-mean-of-4 Inv-loop μ-loop
+add-mean-of-4 c = omega arith
+
+shared-slice-read-mean-of-3 : tie.Need-shared-slice-read-mean-of-3 Inv-loop μ-loop
+shared-slice-read-mean-of-3 c = omega arith
+
+add-mean-of-5 : tie.Need-add-mean-of-5 Inv-loop μ-loop
+add-mean-of-5 c = omega arith
+
+add-mean-of-6 : tie.Need-add-mean-of-6 Inv-loop μ-loop
+add-mean-of-6 c = omega arith
+
+shared-slice-read-mean-of-4 : tie.Need-shared-slice-read-mean-of-4 Inv-loop μ-loop
+shared-slice-read-mean-of-4 c = omega arith
+
+mean-of-requires : tie.Need-mean-of-requires Inv-loop μ-loop
+mean-of-requires c κs = tt
+
+add-out : tie.Need-add-out Inv-loop μ-loop
+add-out c = omega arith
+
+slice-write-out : tie.Need-slice-write-out Inv-loop μ-loop
+slice-write-out c = omega arith
+
+add-x : tie.Need-add-x Inv-loop μ-loop
+add-x c = omega arith
+
+loop-less : tie.Need-loop-less Inv-loop μ-loop
+loop-less c = omega arith
+
+loop-again : tie.Need-loop-again Inv-loop μ-loop
+loop-again c = (omega arith, one-sample (c .before .before .before .before .before .before .loop .inv .1) (c .mean-of .ensures ∙ mean-is _ _ _ _))
+
+same-length : tie.Need-same-length Inv-loop μ-loop
+same-length c = c .before .loop .inv .1 .long
+
+returns : tie.Need-returns Inv-loop μ-loop
+returns c =
+    let e : c .before .loop .x ≡ c .before .before .before .before .args .width / 2 = omega arith in
+    rw e at (c .before .loop .inv .1 .are)
+
+pub average-row-spec : {M : Type 1} → statement M
+average-row-spec =
+    tie.close
+    (tie.spec
+    Inv-loop
+    μ-loop
+    mul-top
+    mul-top-2
+    add-bottom
+    loop-holds
+    mul-left
+    add-mean-of
+    shared-slice-read-mean-of
+    add-mean-of-2
+    add-mean-of-3
+    shared-slice-read-mean-of-2
+    add-mean-of-4
+    shared-slice-read-mean-of-3
+    add-mean-of-5
+    add-mean-of-6
+    shared-slice-read-mean-of-4
+    mean-of-requires
+    add-out
+    slice-write-out
+    add-x
+    loop-less
+    loop-again
+    same-length
+    returns)

@@ -1,0 +1,128 @@
+// Halving: the mean of each block of four, or its upper left sample.
+use super::error::Error;
+use super::error::Outcome;
+use super::error::side_over;
+ghost use mathlib.Core.Path.{_≡_};
+ghost use Prim.Native.Nat.{ℕ, _+_, _*_, _/_, _≤_, _<_};
+ghost use lib.ListN.{length};
+ghost use lib.Seq.{sets};
+ghost use Rattle.definitions.specs.Build.{build};
+ghost use Rattle.definitions.specs.Shrink.{mean, average, subsample, halvedSample, shrink2};
+ghost use Rattle.definitions.specs.Refusals.{answer, after, shrinkChecks};
+ghost use Rattle.mtb_align.specs.Answers.{outcome, modeOf};
+
+// How a level of the pyramid is halved.
+pub enum Shrink {
+    Average,
+    Subsample,
+}
+
+fn mean_of(a: u8, b: u8, c: u8, d: u8) -> u8
+    ensures { λ r. ⌜ r ≡ mean a b c d ⌝ }
+{
+    ((a as u16 + b as u16 + c as u16 + d as u16 + 2) / 4) as u8
+}
+
+// Row y of the halved frame, written at `at`.
+fn average_row(samples: &[u8], width: usize, y: usize, out: &mut [u8], at: usize)
+    requires { ⌜ (width ≤ 8192) × (y ≤ 8192) × ((2 * y + 2) * width ≤ length (now samples)) × (at + width / 2 ≤ length (now out)) ⌝ }
+    ensures { λ _. ⌜ now (out .exit) ≡ sets (now (out .entry)) at (build (width / 2) (λ (x : ℕ). halvedSample average (now (samples .entry)) width x y)) ⌝ }
+{
+    let n = width / 2;
+    let top = 2 * y * width;
+    let bottom = top + width;
+    let mut x: usize = 0;
+    while x < n {
+        let left = 2 * x;
+        out[at + x] = mean_of(
+            samples[top + left],
+            samples[top + left + 1],
+            samples[bottom + left],
+            samples[bottom + left + 1],
+        );
+        x += 1;
+    }
+}
+
+fn subsample_row(samples: &[u8], width: usize, y: usize, out: &mut [u8], at: usize)
+    requires { ⌜ (width ≤ 8192) × (y ≤ 8192) × ((2 * y + 2) * width ≤ length (now samples)) × (at + width / 2 ≤ length (now out)) ⌝ }
+    ensures { λ _. ⌜ now (out .exit) ≡ sets (now (out .entry)) at (build (width / 2) (λ (x : ℕ). halvedSample subsample (now (samples .entry)) width x y)) ⌝ }
+{
+    let n = width / 2;
+    let top = 2 * y * width;
+    let mut x: usize = 0;
+    while x < n {
+        out[at + x] = samples[top + 2 * x];
+        x += 1;
+    }
+}
+
+// The frame halved by means, written at `at`.
+fn average_rows(samples: &[u8], width: usize, height: usize, out: &mut [u8], at: usize)
+    requires { ⌜ (width ≤ 8192) × (height ≤ 8192) × (length (now samples) ≡ width * height) × (at + width / 2 * (height / 2) ≤ length (now out)) ⌝ }
+    ensures { λ _. ⌜ now (out .exit) ≡ sets (now (out .entry)) at (shrink2 average width height (now (samples .entry))) ⌝ }
+{
+    let n = width / 2;
+    let rows = height / 2;
+    let mut y: usize = 0;
+    while y < rows {
+        average_row(samples, width, y, out, at + y * n);
+        y += 1;
+    }
+}
+
+// The frame halved by upper left samples, written at `at`.
+fn subsample_rows(samples: &[u8], width: usize, height: usize, out: &mut [u8], at: usize)
+    requires { ⌜ (width ≤ 8192) × (height ≤ 8192) × (length (now samples) ≡ width * height) × (at + width / 2 * (height / 2) ≤ length (now out)) ⌝ }
+    ensures { λ _. ⌜ now (out .exit) ≡ sets (now (out .entry)) at (shrink2 subsample width height (now (samples .entry))) ⌝ }
+{
+    let n = width / 2;
+    let rows = height / 2;
+    let mut y: usize = 0;
+    while y < rows {
+        subsample_row(samples, width, y, out, at + y * n);
+        y += 1;
+    }
+}
+
+// The halved frame, written at `at`.
+pub(crate) fn halve(
+    samples: &[u8],
+    width: usize,
+    height: usize,
+    shrink: Shrink,
+    out: &mut [u8],
+    at: usize,
+)
+    requires { ⌜ (width ≤ 8192) × (height ≤ 8192) × (length (now samples) ≡ width * height) × (at + width / 2 * (height / 2) ≤ length (now out)) ⌝ }
+    ensures { λ _. ⌜ now (out .exit) ≡ sets (now (out .entry)) at (shrink2 (modeOf shrink) width height (now (samples .entry))) ⌝ }
+{
+    match shrink {
+        Shrink::Average => average_rows(samples, width, height, out, at),
+        Shrink::Subsample => subsample_rows(samples, width, height, out, at),
+    }
+}
+
+// Both sides halved and rounded down. Refused: 1, then 2.
+pub fn shrink2(
+    samples: &[u8],
+    width: usize,
+    height: usize,
+    shrink: Shrink,
+    shrunk: &mut [u8],
+) -> Outcome
+    ensures answer { λ r. ⌜ outcome r ≡ answer (shrinkChecks width height (length (now (samples .entry))) (length (now (shrunk .entry)))) tt ⌝ }
+    ensures shrunk { λ _. ⌜ now (shrunk .exit) ≡ after (shrinkChecks width height (length (now (samples .entry))) (length (now (shrunk .entry)))) (shrink2 (modeOf shrink) width height (now (samples .entry))) (now (shrunk .entry)) ⌝ }
+{
+    if side_over(width, height) {
+        return Outcome::Refused(Error::Side);
+    }
+    if samples.len() != width * height {
+        return Outcome::Refused(Error::Length);
+    }
+    if shrunk.len() != width / 2 * (height / 2) {
+        return Outcome::Refused(Error::Length);
+    }
+    halve(samples, width, height, shrink, shrunk, 0);
+    Outcome::Done
+}

@@ -1,0 +1,182 @@
+// The cut of a frame, and its two bitmaps.
+use super::bitmap::words_per_row;
+use super::error::Error;
+use super::error::Outcome;
+use super::error::side_over;
+use super::strips::pack;
+ghost use mathlib.Core.Path.{_≡_};
+ghost use Prim.Native.Nat.{ℕ, _+_, _*_, _/_, _≤_, _<_};
+ghost use lib.ListN.{length, getD, set};
+ghost use Rattle.definitions.specs.Sum.{sum};
+ghost use Rattle.definitions.specs.Build.{build};
+ghost use Rattle.definitions.specs.Threshold.{bins, binsAdded, cut};
+ghost use Rattle.definitions.specs.Bitmap.{packed};
+ghost use Rattle.definitions.specs.Difference.{bitmapsOf};
+ghost use Rattle.definitions.specs.Refusals.{answer, after, cutChecks, packingChecks};
+ghost use Rattle.mtb_align.specs.Answers.{outcome, cutAnswer};
+ghost use Rattle.mtb_align.specs.Tally.{laneTotal, Tally};
+
+pub enum CutAnswer {
+    Cut(u16),
+    Refused(Error),
+}
+
+// One sample, into the lane that starts at `lane`.
+fn count_one(lanes: &mut [u32; 1024], lane: usize, sample: u8)
+    requires { ⌜ (length (now lanes) ≡ 1024) × (lane ≤ 768) × (getD (now lanes) (lane + sample) 0 < 67108864) ⌝ }
+    ensures { λ _. ⌜ now (lanes .exit) ≡ set (now (lanes .entry)) (lane + sample) (getD (now (lanes .entry)) (lane + sample) 0 + 1) ⌝ }
+{
+    lanes[lane + sample as usize] += 1;
+}
+
+// Four samples, each into a lane of its own, so that no count waits for the one before it. How a value's count is spread over
+// the lanes is left open on purpose, here and in `tally_row`: only the total of the four is read.
+fn count_four(lanes: &mut [u32; 1024], samples: &[u8], at: usize)
+    requires { ⌜ Tally (now lanes) (now samples) at × (length (now samples) ≤ 67108864) × (at + 4 ≤ length (now samples)) ⌝ }
+    ensures { λ _. ⌜ Tally (now (lanes .exit)) (now (samples .entry)) (at + 4) ⌝ }
+{
+    count_one(lanes, 0, samples[at]);
+    count_one(lanes, 256, samples[at + 1]);
+    count_one(lanes, 512, samples[at + 2]);
+    count_one(lanes, 768, samples[at + 3]);
+}
+
+// The lanes count the samples before `from`, and then n more.
+fn tally_row(lanes: &mut [u32; 1024], samples: &[u8], from: usize, n: usize)
+    requires { ⌜ Tally (now lanes) (now samples) from × (length (now samples) ≤ 67108864) × (from + n ≤ length (now samples)) ⌝ }
+    ensures { λ _. ⌜ Tally (now (lanes .exit)) (now (samples .entry)) (from + n) ⌝ }
+{
+    let end = from + n;
+    let mut at = from;
+    while end - at >= 4 {
+        count_four(lanes, samples, at);
+        at += 4;
+    }
+    while at < end {
+        count_one(lanes, 0, samples[at]);
+        at += 1;
+    }
+}
+
+// What the four lanes hold together at the value v.
+fn lane_total(lanes: &[u32; 1024], v: usize) -> u64
+    requires { ⌜ (v < 256) × (laneTotal (now lanes) v ≤ 67108864) ⌝ }
+    ensures { λ r. ⌜ r ≡ laneTotal (now (lanes .entry)) v ⌝ }
+{
+    lanes[v] as u64 + lanes[256 + v] as u64 + lanes[512 + v] as u64 + lanes[768 + v] as u64
+}
+
+// The four lanes as one.
+fn fold_lanes(lanes: &[u32; 1024]) -> [u64; 256]
+    requires { ⌜ ((v : ℕ) → v < 256 → laneTotal (now lanes) v ≤ 67108864) ⌝ }
+    ensures { λ r. ⌜ r ≡ build 256 (laneTotal (now (lanes .entry))) ⌝ }
+{
+    let mut bins = [0u64; 256];
+    let mut v: usize = 0;
+    while v < 256 {
+        bins[v] = lane_total(lanes, v);
+        v += 1;
+    }
+    bins
+}
+
+// How many samples have each of the 256 values.
+pub(crate) fn histogram(samples: &[u8], width: usize, height: usize) -> [u64; 256]
+    requires { ⌜ (width ≤ 8192) × (height ≤ 8192) × (length (now samples) ≡ width * height) ⌝ }
+    ensures { λ r. ⌜ r ≡ bins (now (samples .entry)) ⌝ }
+{
+    let mut lanes = [0u32; 1024];
+    let mut from: usize = 0;
+    let mut y: usize = 0;
+    while y < height {
+        tally_row(&mut lanes, samples, from, width);
+        from += width;
+        y += 1;
+    }
+    fold_lanes(&lanes)
+}
+
+// The number of bins that are added before their sum reaches the goal.
+pub(crate) fn bins_added(bins: [u64; 256], goal: u64) -> u16
+    requires { ⌜ sum 256 (λ (i : ℕ). getD bins i 0) ≤ 67108864 ⌝ }
+    ensures { λ r. ⌜ r ≡ binsAdded bins goal 0 ⌝ }
+{
+    let mut added: u64 = 0;
+    let mut level: usize = 0;
+    while level < 256 {
+        if added >= goal {
+            return level as u16;
+        }
+        added += bins[level];
+        level += 1;
+    }
+    level as u16
+}
+
+// The cut of a frame whose size and percentile were checked.
+pub(crate) fn cut_of(samples: &[u8], width: usize, height: usize, percentile: u8) -> u16
+    requires { ⌜ (width ≤ 8192) × (height ≤ 8192) × (length (now samples) ≡ width * height) × (percentile ≤ 100) ⌝ }
+    ensures { λ r. ⌜ r ≡ cut (now (samples .entry)) percentile ⌝ }
+{
+    let goal = samples.len() as u64 * percentile as u64 / 100;
+    bins_added(histogram(samples, width, height), goal)
+}
+
+// The sample value that the bitmaps are cut at, 0 to 256. Refused: 1, 2, 3.
+pub fn threshold(samples: &[u8], width: usize, height: usize, percentile: u8) -> CutAnswer
+    ensures { λ r. ⌜ cutAnswer r ≡ answer (cutChecks width height (length (now (samples .entry))) percentile) (cut (now (samples .entry)) percentile) ⌝ }
+{
+    if side_over(width, height) {
+        return CutAnswer::Refused(Error::Side);
+    }
+    if samples.len() != width * height {
+        return CutAnswer::Refused(Error::Length);
+    }
+    if percentile > 100 {
+        return CutAnswer::Refused(Error::Percentile);
+    }
+    CutAnswer::Cut(cut_of(samples, width, height, percentile))
+}
+
+// Both bitmaps of a frame, each in its buffer: a threshold bit where the sample lies above the cut, an exclusion bit where it lies
+// farther from the cut than the tolerance. Refused: 1, 2, 3.
+pub fn compute_bitmaps(
+    samples: &[u8],
+    width: usize,
+    height: usize,
+    percentile: u8,
+    tolerance: u8,
+    threshold: &mut [u64],
+    exclusion: &mut [u64],
+) -> Outcome
+    ensures answer { λ r. ⌜ outcome r ≡ answer (packingChecks width height (length (now (samples .entry))) (length (now (threshold .entry))) (length (now (exclusion .entry))) percentile) tt ⌝ }
+    ensures threshold { λ _. ⌜ now (threshold .exit) ≡ after (packingChecks width height (length (now (samples .entry))) (length (now (threshold .entry))) (length (now (exclusion .entry))) percentile) (packed width height (bitmapsOf width (now (samples .entry)) (cut (now (samples .entry)) percentile) tolerance .threshold)) (now (threshold .entry)) ⌝ }
+    ensures exclusion { λ _. ⌜ now (exclusion .exit) ≡ after (packingChecks width height (length (now (samples .entry))) (length (now (threshold .entry))) (length (now (exclusion .entry))) percentile) (packed width height (bitmapsOf width (now (samples .entry)) (cut (now (samples .entry)) percentile) tolerance .exclusion)) (now (exclusion .entry)) ⌝ }
+{
+    if side_over(width, height) {
+        return Outcome::Refused(Error::Side);
+    }
+    if samples.len() != width * height {
+        return Outcome::Refused(Error::Length);
+    }
+    let words = height * words_per_row(width);
+    if threshold.len() != words {
+        return Outcome::Refused(Error::Length);
+    }
+    if exclusion.len() != words {
+        return Outcome::Refused(Error::Length);
+    }
+    if percentile > 100 {
+        return Outcome::Refused(Error::Percentile);
+    }
+    pack(
+        samples,
+        width,
+        height,
+        cut_of(samples, width, height, percentile),
+        tolerance,
+        threshold,
+        exclusion,
+    );
+    Outcome::Done
+}
