@@ -1,7 +1,15 @@
--- An answer as a status: 0 for an accepted call, else the number of its refusal.
+-- What the exported functions return and store.
 use Prim.Native.Nat.{ℕ}
-use Rattle.definitions.specs.Refusals.{Answer, accepted, refused}
+use mathlib.Core.List.{List, []}
+use lib.ListN.{length}
+use Rattle.definitions.specs.Bitmap.{rowOf}
+use Rattle.definitions.specs.Refusals.{Answer, accepted, refused, after, rowChecks}
 
+-- An answer as a status: 0 for an accepted call, else the number of its refusal.
 abbrev pub statusOf : {A : Type 0} → Answer A → ℕ
 statusOf (accepted a) = 0
 statusOf (refused n values) = n
+
+-- Row y of a bitmap, or nothing where the call is refused.
+abbrev pub rowPart : List ℕ → ℕ → ℕ → ℕ → List ℕ
+rowPart words w h y = after (rowChecks w h (length words) y) (rowOf words w y) []

@@ -1,15 +1,24 @@
 // Single frames.
-use mtb_align::error::Error;
+use mtb_align::bitmap::PixelAnswer;
+use mtb_align::bitmap::TotalAnswer;
 use mtb_align::error::Outcome;
 use mtb_align::shrink::Shrink;
+use mtb_align::threshold::CutAnswer;
 ghost use mathlib.Core.Path.{_≡_};
 ghost use mathlib.Core.Bool.{Bool, cond};
+ghost use Prim.Native.Nat.{_≤_};
+ghost use lib.Dec.{eqb, ltb};
 ghost use lib.ListN.{length};
+ghost use lib.Seq.{sets};
 ghost use Rattle.definitions.specs.Gray.{fromRgb};
 ghost use Rattle.definitions.specs.Shrink.{average, subsample, shrink2};
-ghost use Rattle.definitions.specs.Refusals.{answer, after, fromRgbChecks, shrinkChecks};
+ghost use Rattle.definitions.specs.Sum.{bit};
+ghost use Rattle.definitions.specs.Threshold.{cut as cutOf};
+ghost use Rattle.definitions.specs.Bitmap.{packed, bitAt, withBit, total as totalOf};
+ghost use Rattle.definitions.specs.Difference.{bitmapsOf};
+ghost use Rattle.definitions.specs.Refusals.{answer, after, fromRgbChecks, shrinkChecks, cutChecks, packingChecks, pixelChecks, totalChecks};
 ghost use Rattle.mtb_align.specs.Answers.{outcome, modeOf};
-ghost use Rattle.mtb_c.specs.Status.{statusOf};
+ghost use Rattle.mtb_c.specs.Status.{statusOf, rowPart};
 
 pub(crate) fn status(o: Outcome) -> u32
     ensures { λ r. ⌜ r ≡ statusOf (outcome o) ⌝ }
@@ -49,4 +58,131 @@ pub extern "C" fn mtb_shrink2(
     ensures shrunk { λ _. ⌜ now (shrunk .exit) ≡ after (shrinkChecks width height (length (now (samples .entry))) (length (now (shrunk .entry)))) (shrink2 (cond subsampled subsample average) width height (now (samples .entry))) (now (shrunk .entry)) ⌝ }
 {
     status(mtb_align::shrink::shrink2(samples, width, height, mode(subsampled), shrunk))
+}
+
+#[no_mangle]
+pub extern "C" fn mtb_threshold(
+    samples: &[u8],
+    width: usize,
+    height: usize,
+    percentile: u8,
+    cut: &mut u16,
+) -> u32
+    ensures status { λ r. ⌜ r ≡ statusOf (answer (cutChecks width height (length (now (samples .entry))) percentile) (tt {0})) ⌝ }
+    ensures cut { λ _. ⌜ now (cut .exit) ≡ after (cutChecks width height (length (now (samples .entry))) percentile) (cutOf (now (samples .entry)) percentile) (now (cut .entry)) ⌝ }
+{
+    match mtb_align::threshold::threshold(samples, width, height, percentile) {
+        CutAnswer::Cut(c) => {
+            *cut = c;
+            0
+        }
+        CutAnswer::Refused(e) => e.number(),
+    }
+}
+
+#[no_mangle]
+pub extern "C" fn mtb_compute_bitmaps(
+    samples: &[u8],
+    width: usize,
+    height: usize,
+    percentile: u8,
+    tolerance: u8,
+    threshold: &mut [u64],
+    exclusion: &mut [u64],
+) -> u32
+    ensures status { λ r. ⌜ r ≡ statusOf (answer (packingChecks width height (length (now (samples .entry))) (length (now (threshold .entry))) (length (now (exclusion .entry))) percentile) (tt {0})) ⌝ }
+    ensures threshold { λ _. ⌜ now (threshold .exit) ≡ after (packingChecks width height (length (now (samples .entry))) (length (now (threshold .entry))) (length (now (exclusion .entry))) percentile) (packed width height (bitmapsOf width (now (samples .entry)) (cutOf (now (samples .entry)) percentile) tolerance .threshold)) (now (threshold .entry)) ⌝ }
+    ensures exclusion { λ _. ⌜ now (exclusion .exit) ≡ after (packingChecks width height (length (now (samples .entry))) (length (now (threshold .entry))) (length (now (exclusion .entry))) percentile) (packed width height (bitmapsOf width (now (samples .entry)) (cutOf (now (samples .entry)) percentile) tolerance .exclusion)) (now (exclusion .entry)) ⌝ }
+{
+    status(mtb_align::threshold::compute_bitmaps(
+        samples,
+        width,
+        height,
+        percentile,
+        tolerance,
+        threshold,
+        exclusion,
+    ))
+}
+
+#[no_mangle]
+pub extern "C" fn mtb_get(
+    words: &[u64],
+    width: usize,
+    height: usize,
+    x: usize,
+    y: usize,
+    pixel: &mut bool,
+) -> u32
+    ensures status { λ r. ⌜ r ≡ statusOf (answer (pixelChecks width height (length (now (words .entry))) x y) (tt {0})) ⌝ }
+    ensures pixel { λ _. ⌜ now (pixel .exit) ≡ after (pixelChecks width height (length (now (words .entry))) x y) (eqb (bitAt (now (words .entry)) width x y) 1) (now (pixel .entry)) ⌝ }
+{
+    match mtb_align::bitmap::get(words, width, height, x, y) {
+        PixelAnswer::Pixel(b) => {
+            *pixel = b;
+            0
+        }
+        PixelAnswer::Refused(e) => e.number(),
+    }
+}
+
+#[no_mangle]
+pub extern "C" fn mtb_set(
+    words: &mut [u64],
+    width: usize,
+    height: usize,
+    x: usize,
+    y: usize,
+    value: bool,
+) -> u32
+    ensures status { λ r. ⌜ r ≡ statusOf (answer (pixelChecks width height (length (now (words .entry))) x y) (tt {0})) ⌝ }
+    ensures words { λ _. ⌜ now (words .exit) ≡ after (pixelChecks width height (length (now (words .entry))) x y) (withBit (now (words .entry)) width x y (bit value)) (now (words .entry)) ⌝ }
+{
+    status(mtb_align::bitmap::set(words, width, height, x, y, value))
+}
+
+#[no_mangle]
+pub extern "C" fn mtb_count_ones(words: &[u64], width: usize, height: usize, total: &mut u64) -> u32
+    ensures status { λ r. ⌜ r ≡ statusOf (answer (totalChecks width height (now (words .entry))) (tt {0})) ⌝ }
+    ensures total { λ _. ⌜ now (total .exit) ≡ after (totalChecks width height (now (words .entry))) (totalOf (now (words .entry)) width height) (now (total .entry)) ⌝ }
+{
+    match mtb_align::bitmap::count_ones(words, width, height) {
+        TotalAnswer::Total(n) => {
+            *total = n;
+            0
+        }
+        TotalAnswer::Refused(e) => e.number(),
+    }
+}
+
+fn copy(from: &[u64], to: &mut [u64])
+    requires { ⌜ length (now from) ≤ length (now to) ⌝ }
+    ensures { λ _. ⌜ now (to .exit) ≡ sets (now (to .entry)) 0 (now (from .entry)) ⌝ }
+{
+    let mut i: usize = 0;
+    while i < from.len() {
+        to[i] = from[i];
+        i += 1;
+    }
+}
+
+// The words of row y at the front of `out`, where they fit; the answer is how many they are, none where the call is refused.
+#[no_mangle]
+pub extern "C" fn mtb_row(
+    words: &[u64],
+    width: usize,
+    height: usize,
+    y: usize,
+    out: &mut [u64],
+) -> usize
+    ensures count { λ r. ⌜ r ≡ length (rowPart (now (words .entry)) width height y) ⌝ }
+    ensures out { λ _. ⌜ now (out .exit) ≡ cond (ltb (length (now (out .entry))) (length (rowPart (now (words .entry)) width height y))) (now (out .entry)) (sets (now (out .entry)) 0 (rowPart (now (words .entry)) width height y)) ⌝ }
+{
+    let part = mtb_align::bitmap::row(words, width, height, y);
+    let n = part.len();
+    if n > out.len() {
+        return n;
+    }
+    copy(part, out);
+    n
 }
