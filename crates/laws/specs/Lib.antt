@@ -19,3 +19,8 @@ pub mod Members
 pub mod Records
 pub mod Verdicts
 pub mod Bitmaps
+pub mod Machine
+pub mod ChecksGeometry
+pub mod Runs
+pub mod Axis
+pub mod Pyramids

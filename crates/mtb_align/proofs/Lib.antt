@@ -4,3 +4,4 @@ pub mod Lanes
 pub mod Pixels
 pub mod Rows
 pub mod Two
+pub mod Within

@@ -14,6 +14,15 @@ use Rattle.mtb_align.specs.declared.shrink.Shrink.{Shrink}
 use Rattle.mtb_align.specs.declared.shrink.Shrink.the-variants as modes
 use Rattle.mtb_align.specs.declared.threshold.CutAnswer.{CutAnswer}
 use Rattle.mtb_align.specs.declared.threshold.CutAnswer.the-variants as cuts
+use Rattle.definitions.specs.Geometry as geometry
+use Rattle.mtb_align.specs.declared.geometry.Shift.{Shift}
+use Rattle.mtb_align.specs.declared.geometry.Rect.{Rect}
+use Rattle.mtb_align.specs.declared.geometry.Place.{Place}
+use Rattle.mtb_align.specs.declared.geometry.Place.the-variants as places
+use Rattle.mtb_align.specs.declared.geometry.ShiftAnswer.{ShiftAnswer}
+use Rattle.mtb_align.specs.declared.geometry.ShiftAnswer.the-variants as moves
+use Rattle.mtb_align.specs.declared.geometry.CropAnswer.{CropAnswer}
+use Rattle.mtb_align.specs.declared.geometry.CropAnswer.the-variants as crops
 use Rattle.mtb_align.specs.declared.error.Outcome.{Outcome}
 use Rattle.mtb_align.specs.declared.error.Outcome.the-variants.{Done, Refused}
 
@@ -77,3 +86,26 @@ totalAnswer (totals.Refused e) = refusal e
 abbrev pub modeOf : Shrink → halving.Shrink
 modeOf modes.Average = halving.average
 modeOf modes.Subsample = halving.subsample
+
+-- A shift of the code as 01's.
+abbrev pub shiftIn : Shift → geometry.Shift
+shiftIn s = record { x = s .x; y = s .y }
+
+-- A source of a place.
+abbrev pub placeIn : Place → geometry.Source
+placeIn (places.Inside i) = geometry.inside i
+placeIn places.Outside = geometry.outside
+
+-- A region.
+abbrev pub rectIn : Rect → geometry.Rect
+rectIn r = record { x = r .x; y = r .y; width = r .width; height = r .height }
+
+-- A shift, or refusal 12.
+abbrev pub shiftAnswer : ShiftAnswer → Answer geometry.Shift
+shiftAnswer (moves.Moved s) = accepted (shiftIn s)
+shiftAnswer (moves.Refused e) = refusal e
+
+-- A crop.
+abbrev pub cropAnswer : CropAnswer → Answer geometry.Rect
+cropAnswer (crops.Crop r) = accepted (rectIn r)
+cropAnswer (crops.Refused e) = refusal e

@@ -4,7 +4,7 @@ use super::error::Outcome;
 use super::error::side_over;
 ghost use mathlib.Core.Path.{_≡_};
 ghost use Prim.Native.Nat.{ℕ, _+_, _*_, _/_, _≤_, _<_};
-ghost use lib.ListN.{length};
+ghost use lib.ListN.{length, take, drop};
 ghost use lib.Seq.{sets};
 ghost use Rattle.definitions.specs.Build.{build};
 ghost use Rattle.definitions.specs.Shrink.{mean, average, subsample, halvedSample, shrink2};
@@ -100,6 +100,73 @@ pub(crate) fn halve(
     match shrink {
         Shrink::Average => average_rows(samples, width, height, out, at),
         Shrink::Subsample => subsample_rows(samples, width, height, out, at),
+    }
+}
+
+// Row y of a level that is halved, written at `at`. The level stands before it in the same slice, from `from` on.
+fn average_row_within(scratch: &mut [u8], from: usize, width: usize, y: usize, at: usize)
+    requires { ⌜ (width ≤ 8192) × (y ≤ 8192) × (from + (2 * y + 2) * width ≤ at) × (at + width / 2 ≤ length (now scratch)) ⌝ }
+    ensures { λ _. ⌜ now (scratch .exit) ≡ sets (now (scratch .entry)) at (build (width / 2) (λ (x : ℕ). halvedSample average (drop from (now (scratch .entry))) width x y)) ⌝ }
+{
+    let n = width / 2;
+    let top = from + 2 * y * width;
+    let bottom = top + width;
+    let mut x: usize = 0;
+    while x < n {
+        let left = 2 * x;
+        let mean = mean_of(
+            scratch[top + left],
+            scratch[top + left + 1],
+            scratch[bottom + left],
+            scratch[bottom + left + 1],
+        );
+        scratch[at + x] = mean;
+        x += 1;
+    }
+}
+
+fn subsample_row_within(scratch: &mut [u8], from: usize, width: usize, y: usize, at: usize)
+    requires { ⌜ (width ≤ 8192) × (y ≤ 8192) × (from + (2 * y + 2) * width ≤ at) × (at + width / 2 ≤ length (now scratch)) ⌝ }
+    ensures { λ _. ⌜ now (scratch .exit) ≡ sets (now (scratch .entry)) at (build (width / 2) (λ (x : ℕ). halvedSample subsample (drop from (now (scratch .entry))) width x y)) ⌝ }
+{
+    let n = width / 2;
+    let top = from + 2 * y * width;
+    let mut x: usize = 0;
+    while x < n {
+        let sample = scratch[top + 2 * x];
+        scratch[at + x] = sample;
+        x += 1;
+    }
+}
+
+fn row_within(scratch: &mut [u8], from: usize, width: usize, y: usize, shrink: Shrink, at: usize)
+    requires { ⌜ (width ≤ 8192) × (y ≤ 8192) × (from + (2 * y + 2) * width ≤ at) × (at + width / 2 ≤ length (now scratch)) ⌝ }
+    ensures { λ _. ⌜ now (scratch .exit) ≡ sets (now (scratch .entry)) at (build (width / 2) (λ (x : ℕ). halvedSample (modeOf shrink) (drop from (now (scratch .entry))) width x y)) ⌝ }
+{
+    match shrink {
+        Shrink::Average => average_row_within(scratch, from, width, y, at),
+        Shrink::Subsample => subsample_row_within(scratch, from, width, y, at),
+    }
+}
+
+// A level that stands in the slice from `from` on, halved and written at `at`, past it.
+pub(crate) fn halve_within(
+    scratch: &mut [u8],
+    from: usize,
+    width: usize,
+    height: usize,
+    shrink: Shrink,
+    at: usize,
+)
+    requires { ⌜ (width ≤ 8192) × (height ≤ 8192) × (from + width * height ≤ at) × (at + width / 2 * (height / 2) ≤ length (now scratch)) ⌝ }
+    ensures { λ _. ⌜ now (scratch .exit) ≡ sets (now (scratch .entry)) at (shrink2 (modeOf shrink) width height (take (width * height) (drop from (now (scratch .entry))))) ⌝ }
+{
+    let n = width / 2;
+    let rows = height / 2;
+    let mut y: usize = 0;
+    while y < rows {
+        row_within(scratch, from, width, y, shrink, at + y * n);
+        y += 1;
     }
 }
 

@@ -1,0 +1,103 @@
+-- A row of a moved image as three runs: zeros, the samples of the places that have a source, zeros. Assumes nothing.
+use mathlib.Core.Path.{_≡_, refl, sym, ap, ap₂, _∙_}
+use mathlib.Core.List.{List, [], _∷_, _++_, append-assoc, append-nil}
+use Prim.Native.Nat.{ℕ, zero, suc, _+_, _-_, _*_, _<_, min}
+use native.Mathlib.Nat.{add-zero, add-suc, add-assoc}
+use native.Mathlib.Omega.{arith}
+use lib.ListN.{length, getD, replicate}
+use lib.IntN.{ℤ}
+use lib.Seq.{sets}
+use Rattle.definitions.specs.Build.{build, sample}
+use Rattle.definitions.specs.Geometry.{Shift, Source, inside, outside, source, atSource, atSources, ahead, behind}
+use Rattle.laws.specs.Whole.{alone}
+use Rattle.laws.specs.Lists.{build-same, build-const}
+use Rattle.laws.specs.Places.{source-before, source-inside, source-past}
+use Rattle.laws.specs.Writes.{sets-append}
+
+module _ {A : Type 0} where
+  pub build-cons : (n : ℕ) (f : ℕ → A) → build (suc n) f ≡ f 0 ∷ build n (λ (k : ℕ). f (suc k))
+  unfolding build
+  build-cons zero f = refl
+  build-cons (suc n) f = ap (λ (l : List A). l ++ (f (suc n) ∷ [])) (build-cons n f)
+
+  pub build-add : (n m : ℕ) (f : ℕ → A) → build (n + m) f ≡ build n f ++ build m (λ (k : ℕ). f (n + k))
+  unfolding build
+  build-add n zero f = ap (λ (k : ℕ). build k f) (add-zero n) ∙ sym (append-nil (build n f))
+  build-add n (suc m) f =
+      ap (λ (k : ℕ). build k f) (add-suc n m)
+      ∙ ap (λ (l : List A). l ++ (f (n + m) ∷ [])) (build-add n m f)
+      ∙ append-assoc (build n f) (build m (λ (k : ℕ). f (n + k))) (f (n + m) ∷ [])
+
+  -- one run written behind another
+  pub sets-then : (l : List A) (i n : ℕ) (vs ws : List A) {m new : List A} → length vs ≡ n → m ≡ sets l i vs → new ≡ sets m (i + n) ws → new ≡ sets l i (vs ++ ws)
+  sets-then l i n vs ws {m} {new} e p q =
+      q ∙ ap₂ (λ (x : List A) (k : ℕ). sets x (i + k) ws) p (sym e) ∙ sym (sets-append l i vs ws)
+
+-- ---- the places of a side that have a source are one run
+
+-- `before` places stand before the run, its `n` places read from `first` on, and `first` places stand past it.
+pub record Run (w : ℕ) (s : ℤ) (before first n : ℕ) : Type 0 where
+  pub left : before ≡ min (ahead s) w
+  pub from : first ≡ min (behind s) w
+  pub size : n ≡ w - before - first
+
+module _ {w : ℕ} {s : ℤ} {before first n : ℕ} (r : Run w s before first n) where
+  pub run-sum : before + n + first ≡ w
+  run-sum = omega (arith, r .left, r .from, r .size, alone s)
+
+  module _ (f : ℕ → ℕ) where
+    abbrev at : ℕ → ℕ
+    at x = atSource (source x s w) f
+
+    by : (x : ℕ) {p : Source} → source x s w ≡ p → at x ≡ atSource p f
+    by x e = ap (λ (p : Source). atSource p f) e
+
+    left-of : (x : ℕ) → x < before → at x ≡ 0
+    left-of x h = by x (source-before x s w (omega (arith, r .left)))
+
+    within : (k : ℕ) → k < n → at (before + k) ≡ f (first + k)
+    within k h = by (before + k) (source-inside (before + k) s w (first + k) (omega (arith, r .left, r .from, r .size)) (omega (arith, r .left, r .from, r .size)))
+
+    right-of : (k : ℕ) → k < first → at (before + (n + k)) ≡ 0
+    right-of k h = by (before + (n + k)) (source-past (before + (n + k)) s w (omega (arith, r .left, r .from, r .size, alone s)))
+
+    pub row-runs : build w at ≡ replicate before 0 ++ (build n (λ (k : ℕ). f (first + k)) ++ replicate first 0)
+    row-runs =
+        ap (λ (k : ℕ). build k at) (omega (arith, run-sum))
+        ∙ build-add before (n + first) at
+        ∙ ap₂ (λ (a b : List ℕ). a ++ b)
+        (build-same before at (λ (x : ℕ). 0) left-of ∙ build-const before 0)
+        (build-add n first (λ (k : ℕ). at (before + k))
+        ∙ ap₂ (λ (a b : List ℕ). a ++ b)
+        (build-same n (λ (k : ℕ). at (before + k)) (λ (k : ℕ). f (first + k)) within)
+        (build-same first (λ (k : ℕ). at (before + (n + k))) (λ (k : ℕ). 0) right-of ∙ build-const first 0))
+
+-- ---- row y of a moved image
+
+module _ (w h : ℕ) (samples : List ℕ) (s : Shift) where
+  abbrev pub movedRow : ℕ → List ℕ
+  movedRow y = build w (λ (x : ℕ). atSources w h s x y (λ (u v : ℕ). sample samples w u v))
+
+  by-row : (y : ℕ) {p : Source} → source y (s .y) h ≡ p
+      → movedRow y ≡ build w (λ (x : ℕ). atSource (source x (s .x) w) (λ (u : ℕ). atSource p (λ (v : ℕ). sample samples w u v)))
+  unfolding atSources
+  by-row y e = ap (λ (p : Source). build w (λ (x : ℕ). atSource (source x (s .x) w) (λ (u : ℕ). atSource p (λ (v : ℕ). sample samples w u v)))) e
+
+  pub row-outside : (y : ℕ) → source y (s .y) h ≡ outside → movedRow y ≡ replicate w 0
+  row-outside y e =
+      by-row y e
+      ∙ build-same w (λ (x : ℕ). atSource (source x (s .x) w) (λ (u : ℕ). 0)) (λ (x : ℕ). 0) (λ x l. none (source x (s .x) w))
+      ∙ build-const w 0
+    where
+      none : (p : Source) → atSource p (λ (u : ℕ). 0) ≡ 0
+      none (inside i) = refl
+      none outside = refl
+
+  pub row-inside : {before first n : ℕ} → Run w (s .x) before first n → (y v : ℕ) → source y (s .y) h ≡ inside v
+      → movedRow y ≡ replicate before 0 ++ (build n (λ (k : ℕ). getD samples (v * w + first + k) 0) ++ replicate first 0)
+  row-inside {before} {first} {n} r y v e =
+      by-row y e
+      ∙ row-runs r (λ (u : ℕ). sample samples w u v)
+      ∙ ap (λ (l : List ℕ). replicate before 0 ++ (l ++ replicate first 0))
+      (build-same n (λ (k : ℕ). getD samples (v * w + (first + k)) 0) (λ (k : ℕ). getD samples (v * w + first + k) 0)
+      (λ k h. ap (λ (i : ℕ). getD samples i 0) (sym (add-assoc (v * w) first k))))

@@ -1,0 +1,13 @@
+-- `mtb_align::geometry::Rect::is_empty` meets its contract. Assumes nothing.
+use borrow.Author.Tests.{eq-eqb, ne-eqb}
+use Rattle.mtb_align.proofs.geometry.Rect.is_empty.Statement.{statement}
+use Rattle.mtb_align.proofs.geometry.Rect.is_empty.Tie as tie
+
+returns : tie.Need-returns
+returns c = rw (eq-eqb _ _ (c .if1 .taken))
+
+returns-2 : tie.Need-returns-2
+returns-2 c = rw (ne-eqb _ _ (c .before .if1 .left))
+
+pub is-empty-spec : {M : Type 1} → statement M
+is-empty-spec = tie.close (tie.spec returns returns-2)

@@ -1,0 +1,53 @@
+-- `mtb_align::geometry::move_row` meets its contract: each run is written behind the one before it. Assumes nothing.
+use Prim.Native.Nat.{ℕ, _+_}
+use borrow.Author.Needs.{needs}
+use lib.ListN.{getD, replicate, length-replicate}
+use Rattle.definitions.specs.Build.{build}
+use Rattle.laws.specs.Lists.{build-length}
+use Rattle.laws.specs.Runs.{sets-then}
+use Rattle.mtb_align.proofs.geometry.move_row.Statement.{statement}
+use Rattle.mtb_align.proofs.geometry.move_row.Tie as tie
+
+clear-run-requires : tie.Need-clear-run-requires
+clear-run-requires c κs = search needs
+
+add-copy-run : tie.Need-add-copy-run
+add-copy-run c = search needs
+
+copy-run-requires : tie.Need-copy-run-requires
+copy-run-requires c κs = search needs
+
+add-clear-run : tie.Need-add-clear-run
+add-clear-run c = search needs
+
+add-clear-run-2 : tie.Need-add-clear-run-2
+add-clear-run-2 c = search needs
+
+clear-run-requires-2 : tie.Need-clear-run-requires-2
+clear-run-requires-2 c κs = search needs
+
+same-length : tie.Need-same-length
+same-length c = search needs
+
+returns : tie.Need-returns
+returns c =
+    let third = c .before .before in
+    let second = third .before .before .before .before in
+    let first = second .before .before .before .before in
+    let a = first .before .before .before .before .args in
+    sets-then (a .out .now) (a .at) (a .before) (replicate (a .before) 0) _ (length-replicate (a .before) 0) (first .clear-run .ensures)
+    (sets-then _ (a .at + a .before) (a .n) (build (a .n) (λ (k : ℕ). getD (a .samples .now) (a .from + k) 0)) (replicate (a .past) 0) (build-length (a .n) _)
+    (second .copy-run .ensures) (third .clear-run2 .ensures))
+
+pub move-row-spec : {M : Type 1} → statement M
+move-row-spec =
+    tie.close
+    (tie.spec
+    clear-run-requires
+    add-copy-run
+    copy-run-requires
+    add-clear-run
+    add-clear-run-2
+    clear-run-requires-2
+    same-length
+    returns)

@@ -1,0 +1,140 @@
+-- `mtb_align::shrink::average_row_within` meets its contract. The loop has stored the first x samples of the row. Assumes nothing.
+use mathlib.Core.Path.{_≡_, _∙_}
+use mathlib.Core.List.{List}
+use Prim.Native.Nat.{ℕ, _+_, _-_, _*_, _/_, _≤_}
+use native.Mathlib.Omega.{arith}
+use lib.ListN.{getD, drop}
+use lib.Seq.{getD-drop}
+use Rattle.definitions.specs.Shrink.{mean, average, halvedSample}
+use Rattle.mtb_align.proofs.Halves.{Samples, no-samples, one-sample}
+use Rattle.mtb_align.proofs.Within.{sample-within}
+use Rattle.mtb_align.proofs.shrink.average_row_within.Statement.{statement}
+use Rattle.mtb_align.proofs.shrink.average_row_within.Tie as tie
+
+-- the mean that the code takes
+mean-is : (l : List ℕ) (from w x y : ℕ) → let top = from + 2 * y * w in
+    mean (getD l (top + 2 * x) 0) (getD l (top + 2 * x + 1) 0) (getD l (top + w + 2 * x) 0) (getD l (top + w + 2 * x + 1) 0)
+    ≡ halvedSample average (drop from l) w x y
+unfolding halvedSample
+mean-is l from w x y =
+    let top = from + 2 * y * w in
+    let here : top + 2 * x ≡ from + (2 * y * w + 2 * x) = omega arith in
+    let right : top + 2 * x + 1 ≡ from + (2 * y * w + (2 * x + 1)) = omega arith in
+    let under : top + w + 2 * x ≡ from + ((2 * y + 1) * w + 2 * x) = omega arith in
+    let last : top + w + 2 * x + 1 ≡ from + ((2 * y + 1) * w + (2 * x + 1)) = omega arith in
+    simp getD-drop (cc)
+
+abbrev Inv-loop : tie.InvT-loop
+Inv-loop scratch₀ from width y at n top bottom x₀ scratch x = (x ≤ n) × Samples average (drop from scratch₀) width y at scratch₀ scratch x
+
+abbrev μ-loop : tie.MeasureT-loop
+μ-loop scratch₀ from width y at n top bottom x₀ scratch x = n - x
+
+mul-top : tie.Need-mul-top Inv-loop μ-loop
+mul-top c = omega arith
+
+mul-top-2 : tie.Need-mul-top-2 Inv-loop μ-loop
+mul-top-2 c = omega arith
+
+add-top : tie.Need-add-top Inv-loop μ-loop
+add-top c = omega arith
+
+add-bottom : tie.Need-add-bottom Inv-loop μ-loop
+add-bottom c = omega arith
+
+loop-holds : tie.Need-loop-holds Inv-loop μ-loop
+loop-holds c = (omega arith, no-samples _ _ _ _ _ _)
+
+mul-left : tie.Need-mul-left Inv-loop μ-loop
+mul-left c = omega arith
+
+add-mean-of : tie.Need-add-mean-of Inv-loop μ-loop
+add-mean-of c = omega arith
+
+slice-read-mean-of : tie.Need-slice-read-mean-of Inv-loop μ-loop
+slice-read-mean-of c = omega arith
+
+add-mean-of-2 : tie.Need-add-mean-of-2 Inv-loop μ-loop
+add-mean-of-2 c = omega arith
+
+add-mean-of-3 : tie.Need-add-mean-of-3 Inv-loop μ-loop
+add-mean-of-3 c = omega arith
+
+slice-read-mean-of-2 : tie.Need-slice-read-mean-of-2 Inv-loop μ-loop
+slice-read-mean-of-2 c = omega arith
+
+add-mean-of-4 : tie.Need-add-mean-of-4 Inv-loop μ-loop
+add-mean-of-4 c = omega arith
+
+slice-read-mean-of-3 : tie.Need-slice-read-mean-of-3 Inv-loop μ-loop
+slice-read-mean-of-3 c = omega arith
+
+add-mean-of-5 : tie.Need-add-mean-of-5 Inv-loop μ-loop
+add-mean-of-5 c = omega arith
+
+add-mean-of-6 : tie.Need-add-mean-of-6 Inv-loop μ-loop
+add-mean-of-6 c = omega arith
+
+slice-read-mean-of-4 : tie.Need-slice-read-mean-of-4 Inv-loop μ-loop
+slice-read-mean-of-4 c = omega arith
+
+mean-of-requires : tie.Need-mean-of-requires Inv-loop μ-loop
+mean-of-requires c κs = tt
+
+add-scratch : tie.Need-add-scratch Inv-loop μ-loop
+add-scratch c = omega arith
+
+slice-write-scratch : tie.Need-slice-write-scratch Inv-loop μ-loop
+slice-write-scratch c = omega arith
+
+add-x : tie.Need-add-x Inv-loop μ-loop
+add-x c = omega arith
+
+loop-less : tie.Need-loop-less Inv-loop μ-loop
+loop-less c = omega arith
+
+loop-again : tie.Need-loop-again Inv-loop μ-loop
+loop-again c =
+    let a = c .before .before .before .before .before .before .before .before .args in
+    let l = c .before .before .before .before .before .before .loop in
+    let q = l .inv .1 in
+    (omega arith, one-sample q (c .mean-of .ensures ∙ mean-is (l .scratch) (a .from) (a .width) (l .x) (a .y) ∙ sample-within (a .from) q (omega arith) (omega arith)))
+
+same-length : tie.Need-same-length Inv-loop μ-loop
+same-length c = c .before .loop .inv .1 .long
+
+returns : tie.Need-returns Inv-loop μ-loop
+returns c =
+    let e : c .before .loop .x ≡ c .before .before .before .args .width / 2 = omega arith in
+    rw e at (c .before .loop .inv .1 .are)
+
+pub average-row-within-spec : {M : Type 1} → statement M
+average-row-within-spec =
+    tie.close
+    (tie.spec
+    Inv-loop
+    μ-loop
+    mul-top
+    mul-top-2
+    add-top
+    add-bottom
+    loop-holds
+    mul-left
+    add-mean-of
+    slice-read-mean-of
+    add-mean-of-2
+    add-mean-of-3
+    slice-read-mean-of-2
+    add-mean-of-4
+    slice-read-mean-of-3
+    add-mean-of-5
+    add-mean-of-6
+    slice-read-mean-of-4
+    mean-of-requires
+    add-scratch
+    slice-write-scratch
+    add-x
+    loop-less
+    loop-again
+    same-length
+    returns)

@@ -1,0 +1,57 @@
+// Replays the original's vectors for single frames. Each line of the input is a call's number, its inputs and its answer; the fields
+// are those of compare/vectors. A refused call must leave its marked buffers alone, and an accepted one what lies past its outputs.
+mod bitmaps;
+mod images;
+
+use replay::at;
+use replay::read_line;
+
+fn agrees(numbers: &[u64]) -> bool {
+    let call = at(numbers, 0);
+    match call {
+        1 => images::from_rgb(numbers),
+        2 => images::shrink2(numbers),
+        3 => images::threshold(numbers),
+        4 => images::compute_bitmaps(numbers),
+        5 => bitmaps::get(numbers),
+        6 => bitmaps::set(numbers),
+        7 => bitmaps::count_ones(numbers),
+        8 => bitmaps::row(numbers),
+        _ => false,
+    }
+}
+
+fn say(call: u64, case: u64) {
+    let text = b"call ";
+    io::write_all(1, text);
+    io::print_decimal(1, call);
+    io::write_all(1, b" case ");
+    io::print_decimal(1, case);
+    io::write_all(1, b" differs\n");
+}
+
+fn replayed(text: &[u8]) {
+    let mut numbers = [0u64; 9216];
+    let mut cases: u64 = 0;
+    let mut next: usize = 0;
+    while cases < 100000 {
+        if next >= text.len() {
+            io::print_decimal(1, cases);
+            io::write_all(1, b" cases agree\n");
+            return;
+        }
+        let found = read_line(text, next, &mut numbers);
+        if !agrees(&numbers) {
+            say(at(&numbers, 0) as u64, cases);
+            return;
+        }
+        next = found.next;
+        cases += 1;
+    }
+}
+
+fn main() {
+    let mut text = [0u8; 524288];
+    let n = io::read_full(0, &mut text);
+    replayed(&text[..n]);
+}
