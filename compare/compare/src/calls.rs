@@ -1,6 +1,10 @@
 //! The calls on one image, one bitmap, two bitmaps, or shifts alone.
 
-use compare::inputs::{ANY, Random, any_shift, coordinate, shrink, size, two_pairs, words};
+use compare::inputs::{
+    ANY, Random, any_shift, coordinate, percentile_of, perhaps_wrong, shrink, size, tolerance,
+    two_pairs, words,
+};
+use compare::trials::Outcome;
 use compare::{original, recount, scenes};
 use naive::bitmap::{Bitmap, words_needed, words_per_row};
 use naive::difference::{Pair, disagreement as count};
@@ -8,16 +12,7 @@ use naive::geometry::{self, Shift};
 use naive::gray::Frame;
 use naive::{gray, threshold as cut};
 
-use crate::{Outcome, same};
-
-/// Now and then one too many or too few.
-pub fn perhaps_wrong(random: &mut Random, length: usize) -> usize {
-    match random.below(20) {
-        0 => length + 1,
-        1 => length.saturating_sub(1),
-        _ => length,
-    }
-}
+use crate::same;
 
 /// A frame's samples, now and then of a wrong length.
 pub fn samples(random: &mut Random, width: usize, height: usize) -> Vec<u8> {
@@ -65,11 +60,6 @@ pub fn shifted(random: &mut Random, _: usize) -> Outcome {
     )
 }
 
-/// Percentiles 0 to 104 in turn.
-fn percentile_of(case: usize) -> u8 {
-    (case % 105) as u8
-}
-
 pub fn threshold(random: &mut Random, case: usize) -> Outcome {
     let (width, height) = size(random, 30);
     let samples = samples(random, width, height);
@@ -86,11 +76,7 @@ pub fn compute_bitmaps(random: &mut Random, case: usize) -> Outcome {
     let (width, height) = size(random, 20);
     let samples = samples(random, width, height);
     let frame = Frame::new(&samples, width, height);
-    let percentile = percentile_of(case);
-    let tolerance = match random.one_in(2) {
-        true => random.pick(&[0, 1, 4, 254, 255]),
-        false => random.byte(),
-    };
+    let (percentile, tolerance) = (percentile_of(case), tolerance(random));
     // The original's words are held against its own pixels and clear padding where
     // they are taken out of it.
     same(

@@ -1,4 +1,4 @@
-//! Seeded pseudo-random sizes, shifts, bitmaps and options.
+//! Seeded pseudo-random sizes, lengths, shifts, bitmaps and options.
 
 use naive::align::Options;
 use naive::bitmap::packed;
@@ -66,6 +66,15 @@ pub fn size(random: &mut Random, most_height: usize) -> (usize, usize) {
     (width, height)
 }
 
+/// Now and then one too many or too few.
+pub fn perhaps_wrong(random: &mut Random, length: usize) -> usize {
+    match random.below(20) {
+        0 => length + 1,
+        1 => length.saturating_sub(1),
+        _ => length,
+    }
+}
+
 /// A coordinate for a side: small, within the frame, about a multiple of 64, at the
 /// edge, beyond the frame, or at the ends of i32.
 pub fn coordinate(random: &mut Random, side: usize) -> i32 {
@@ -111,6 +120,20 @@ pub fn words(random: &mut Random, (width, height): (usize, usize), set: [usize; 
     packed(width, height, |x, y| bits[y * width + x])
 }
 
+/// A bitmap's words. Half of those with padding have some of it set: only totals and
+/// counts mind.
+pub fn padded_words(random: &mut Random, size: (usize, usize)) -> Vec<u64> {
+    let mut words = words(random, size, ANY);
+    let width = size.0;
+    if !width.is_multiple_of(64) && random.one_in(2) {
+        let last = width / 64;
+        for row in words.chunks_mut(last + 1) {
+            row[last] |= random.word() & (u64::MAX << (width % 64));
+        }
+    }
+    words
+}
+
 /// The words of two packed pairs: threshold and exclusion of either.
 pub fn two_pairs(random: &mut Random, size: (usize, usize)) -> [Vec<u64>; 4] {
     [ANY, MOSTLY_SET, ANY, MOSTLY_SET].map(|set| words(random, size, set))
@@ -118,6 +141,18 @@ pub fn two_pairs(random: &mut Random, size: (usize, usize)) -> [Vec<u64>; 4] {
 
 pub fn shrink(random: &mut Random) -> Shrink {
     random.pick(&[Shrink::Average, Shrink::Subsample])
+}
+
+/// Percentiles 0 to 104 in turn.
+pub fn percentile_of(case: usize) -> u8 {
+    (case % 105) as u8
+}
+
+pub fn tolerance(random: &mut Random) -> u8 {
+    match random.one_in(2) {
+        true => random.pick(&[0, 1, 4, 254, 255]),
+        false => random.byte(),
+    }
 }
 
 /// Mostly what a machine would be set to, now and then anything.

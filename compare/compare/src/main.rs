@@ -7,18 +7,7 @@ mod stacks;
 use std::fmt::Debug;
 use std::process::ExitCode;
 
-use compare::inputs::Random;
-
-/// Nothing where both agreed, else the input and both answers.
-type Outcome = Result<(), String>;
-
-/// A call, how many inputs it is tried on, and the trial of one. The number of the
-/// case is there for what has to be gone through in turn.
-struct Call {
-    name: &'static str,
-    cases: usize,
-    check: fn(&mut Random, usize) -> Outcome,
-}
+use compare::trials::{self, Call, Outcome, call};
 
 const CALLS: [Call; 19] = [
     call("from_rgb", 2000, calls::from_rgb),
@@ -42,49 +31,10 @@ const CALLS: [Call; 19] = [
     call("stacksteps", 120, stacks::stacksteps),
 ];
 
-const fn call(name: &'static str, cases: usize, check: fn(&mut Random, usize) -> Outcome) -> Call {
-    Call { name, cases, check }
-}
-
-const USUAL_SEED: u64 = 20_030_601;
-
 fn main() -> ExitCode {
-    let seed = match std::env::args().nth(1).map(|seed| seed.parse()) {
-        None => USUAL_SEED,
-        Some(Ok(seed)) => seed,
-        Some(Err(_)) => {
-            eprintln!("usage: compare [SEED]");
-            return ExitCode::FAILURE;
-        }
-    };
-
-    let mut total = 0;
-    for (number, call) in CALLS.iter().enumerate() {
-        for case in 0..call.cases {
-            // Every case has a stream of its own, so it can be told apart by its number.
-            let stream = Random::new(seed ^ ((number as u64) << 48)).word();
-            let mut random = Random::new(stream.wrapping_add(case as u64));
-            if let Err(difference) = (call.check)(&mut random, case) {
-                println!("{}: seed {seed}, case {case}: {difference}", call.name);
-                return ExitCode::FAILURE;
-            }
-        }
-        println!("{:16} {:5} cases agreed", call.name, call.cases);
-        total += call.cases;
-    }
-    println!("total {total} cases agreed");
-    ExitCode::SUCCESS
+    trials::run(&CALLS, "naive and original")
 }
 
-/// Agreement of two answers to one input.
 fn same<T: PartialEq + Debug + ?Sized>(input: &str, naive: &T, other: &T) -> Outcome {
-    if naive == other {
-        return Ok(());
-    }
-    let shown = |answer: &T| {
-        let text = format!("{answer:?}");
-        text.chars().take(600).collect::<String>()
-    };
-    let (naive, other) = (shown(naive), shown(other));
-    Err(format!("{input}\n  naive    {naive}\n  original {other}"))
+    trials::same(input, ("naive", naive), ("original", other))
 }

@@ -132,6 +132,19 @@ pub fn bracket(random: &mut Random, width: usize, height: usize, count: usize) -
         .collect()
 }
 
+/// Even rows of pins without noise.
+pub fn pin_rows(width: usize, height: usize) -> Vec<u8> {
+    let scene = Scene::Pins {
+        pitch: 16,
+        thick: 6,
+        apart: 40,
+        long: 24,
+    };
+    (0..width * height)
+        .map(|at| scene.light((at % width) as i64, (at / width) as i64) as u8)
+        .collect()
+}
+
 pub fn frame(random: &mut Random, width: usize, height: usize) -> Vec<u8> {
     bracket(random, width, height, 1).remove(0)
 }

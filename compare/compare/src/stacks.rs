@@ -2,6 +2,7 @@
 
 use compare::frames::Frames;
 use compare::inputs::{Random, options, shrink, size};
+use compare::trials::Outcome;
 use compare::{original, recount, scenes};
 use naive::align::{self, Scratch, halved_samples};
 use naive::geometry::Crop;
@@ -11,7 +12,7 @@ use naive::report::{RECORD_BYTES, Record, Report, Rivalry, Room};
 use naive::stacksteps::{self as program, OPTIONS, RIVALRY};
 
 use crate::calls::samples;
-use crate::{Outcome, same};
+use crate::same;
 
 pub fn pyramid(random: &mut Random, _: usize) -> Outcome {
     let (width, height) = size(random, 130);

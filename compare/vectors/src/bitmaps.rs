@@ -1,6 +1,6 @@
 //! Calls on packed bitmaps.
 
-use compare::inputs::{ANY, Random, any_shift, two_pairs, words};
+use compare::inputs::{ANY, Random, any_shift, padded_words, two_pairs, words};
 use compare::{original, recount};
 use naive::bitmap::{self, Bitmap};
 use naive::difference::{self, Counts, Pair};
@@ -26,20 +26,6 @@ impl<Asked> Packed<Asked> {
 }
 
 const SOUND: Size = (67, 3);
-
-/// Words for a bitmap. Half of those with padding have some of it set: only totals
-/// and counts mind.
-fn padded_words(random: &mut Random, size: Size) -> Vec<u64> {
-    let mut words = words(random, size, ANY);
-    let width = size.0;
-    if !width.is_multiple_of(64) && random.one_in(2) {
-        let last = width / 64;
-        for row in words.chunks_mut(last + 1) {
-            row[last] |= random.word() & (u64::MAX << (width % 64));
-        }
-    }
-    words
-}
 
 /// A pixel to read or, with a value, to set.
 #[derive(Clone)]

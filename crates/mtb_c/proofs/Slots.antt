@@ -7,12 +7,29 @@ use Rattle.definitions.specs.Refusals.{Check, accepted, refused, answer, after}
 use Rattle.laws.specs.Checks.{accepted-too, refused-too, after-accepted, after-refused}
 use Rattle.mtb_c.specs.Status.{statusOf}
 
-module _ {A : Type 0} (l : List Check) (v old : A) where
-  pub slot-accepted : {w : A} → accepted w ≡ answer l v → (0 ≡ statusOf (answer l (tt {0}))) × (w ≡ after l v old)
-  slot-accepted {w} e =
-      let p : answer l v ≡ accepted v = accepted-too v v l (sym e) in
-      let q : w ≡ v = cc in
-      (sym (ap statusOf (accepted-too v (tt {0}) l (sym e))), q ∙ sym (after-accepted v l v old (sym e)))
+module _ {A : Type 0} (l : List Check) (v : A) where
+  -- accepted: the status is 0, and a slot for a part of the value holds that part
+  module _ {w : A} (e : accepted w ≡ answer l v) where
+    pub status-accepted : 0 ≡ statusOf (answer l (tt {0}))
+    status-accepted = sym (ap statusOf (accepted-too v (tt {0}) l (sym e)))
 
-  pub slot-refused : {n m : ℕ} {values : List ℕ} → refused n values ≡ answer l v → m ≡ n → (m ≡ statusOf (answer l (tt {0}))) × (old ≡ after l v old)
-  slot-refused e p = (p ∙ sym (ap statusOf (refused-too v (tt {0}) l (sym e))), sym (after-refused v l v old (sym e)))
+    pub stored : {B : Type 0} (part : A → B) (old : B) → part w ≡ after l (part v) old
+    stored part old =
+        let p : answer l v ≡ accepted v = accepted-too v v l (sym e) in
+        let q : w ≡ v = cc in
+        ap part q ∙ sym (after-accepted v l (part v) old (sym e))
+
+  -- refused: the status is the refusal's number, and a slot holds what it held
+  module _ {n : ℕ} {values : List ℕ} (e : refused n values ≡ answer l v) where
+    pub status-refused : {m : ℕ} → m ≡ n → m ≡ statusOf (answer l (tt {0}))
+    status-refused p = p ∙ sym (ap statusOf (refused-too v (tt {0}) l (sym e)))
+
+    pub kept : {B : Type 0} (new old : B) → old ≡ after l new old
+    kept new old = sym (after-refused v l new old (sym e))
+
+  -- a call with one slot for the whole value
+  pub slot-accepted : (old : A) {w : A} → accepted w ≡ answer l v → (0 ≡ statusOf (answer l (tt {0}))) × (w ≡ after l v old)
+  slot-accepted old e = (status-accepted e, stored e (λ a. a) old)
+
+  pub slot-refused : (old : A) {n m : ℕ} {values : List ℕ} → refused n values ≡ answer l v → m ≡ n → (m ≡ statusOf (answer l (tt {0}))) × (old ≡ after l v old)
+  slot-refused old e p = (status-refused e p, kept e v old)

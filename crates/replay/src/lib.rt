@@ -262,3 +262,57 @@ pub fn words_agree(numbers: &[u64], from: usize, status: u32, got: &[u64], n: us
     }
     marked_words(&got[n..])
 }
+
+// Number i of a line as a coordinate, and 0 where it is none.
+pub fn coordinate(numbers: &[u64], i: usize) -> i32 {
+    if i >= numbers.len() {
+        return 0;
+    }
+    let value = numbers[i];
+    if value < 2147483648 {
+        return value as i32;
+    }
+    if value < 9223372036854775808 {
+        return 0;
+    }
+    let magnitude = value - 9223372036854775808;
+    if magnitude < 2147483648 {
+        return 0 - magnitude as i32;
+    }
+    if magnitude == 2147483648 {
+        return -2147483648;
+    }
+    0
+}
+
+// The coordinates that stand from number `from` on.
+pub fn coordinates(numbers: &[u64], from: usize, out: &mut [i32]) {
+    let mut i: usize = 0;
+    let mut k = from;
+    while i < out.len() {
+        if k >= numbers.len() {
+            return;
+        }
+        out[i] = coordinate(numbers, k);
+        i += 1;
+        k += 1;
+    }
+}
+
+fn say(call: u64, case: u64) {
+    io::write_all(1, b"call ");
+    io::print_decimal(1, call);
+    io::write_all(1, b" case ");
+    io::print_decimal(1, case);
+    io::write_all(1, b" differs\n");
+}
+
+// What a run over all lines found: every case agreed, or which did not.
+pub fn conclude(agreed: bool, call: usize, cases: u64) {
+    if agreed {
+        io::print_decimal(1, cases);
+        io::write_all(1, b" cases agree\n");
+        return;
+    }
+    say(call as u64, cases);
+}

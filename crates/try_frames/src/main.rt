@@ -4,6 +4,7 @@ mod bitmaps;
 mod images;
 
 use replay::at;
+use replay::conclude;
 use replay::read_line;
 
 fn agrees(numbers: &[u64]) -> bool {
@@ -21,28 +22,18 @@ fn agrees(numbers: &[u64]) -> bool {
     }
 }
 
-fn say(call: u64, case: u64) {
-    let text = b"call ";
-    io::write_all(1, text);
-    io::print_decimal(1, call);
-    io::write_all(1, b" case ");
-    io::print_decimal(1, case);
-    io::write_all(1, b" differs\n");
-}
-
 fn replayed(text: &[u8]) {
     let mut numbers = [0u64; 9216];
     let mut cases: u64 = 0;
     let mut next: usize = 0;
     while cases < 100000 {
         if next >= text.len() {
-            io::print_decimal(1, cases);
-            io::write_all(1, b" cases agree\n");
+            conclude(true, 0, cases);
             return;
         }
         let found = read_line(text, next, &mut numbers);
         if !agrees(&numbers) {
-            say(at(&numbers, 0) as u64, cases);
+            conclude(false, at(&numbers, 0), cases);
             return;
         }
         next = found.next;

@@ -1,0 +1,52 @@
+//! Holds the port against the original and the naive reading on seeded inputs, call
+//! by call. Takes a seed, or none for the usual one. Ends at the first disagreement.
+
+mod claims;
+mod frames;
+mod lent;
+
+use std::fmt::Debug;
+use std::process::ExitCode;
+
+use compare::trials::{self, Call, Outcome, call, same};
+use naive::Refusal;
+
+const CALLS: [Call; 9] = [
+    call("from_rgb", 3000, frames::from_rgb),
+    call("shrink2 average", 3000, frames::shrink2_average),
+    call("shrink2 subsample", 3000, frames::shrink2_subsample),
+    call("threshold", 4200, frames::threshold),
+    call("compute_bitmaps", 4200, frames::compute_bitmaps),
+    call("get", 4000, frames::get),
+    call("set", 4000, frames::set),
+    call("count_ones", 4000, frames::count_ones),
+    call("row", 4000, frames::row),
+];
+
+fn main() -> ExitCode {
+    trials::run(&CALLS, "port, naive and original")
+}
+
+/// Agreement of the port, by its status and what it has written, with the naive
+/// reading on every input and with the original where it has an answer. It is asked
+/// only about what is accepted.
+fn agreed<T: PartialEq + Debug>(
+    input: &str,
+    (status, written): (u32, T),
+    naive: Result<T, Refusal>,
+    original: Option<impl FnOnce() -> Result<T, Refusal>>,
+) -> Outcome {
+    let number = |refusal: Refusal| refusal.number;
+    let port = match status {
+        0 => Ok(written),
+        refused => Err(refused),
+    };
+    same(input, ("port", &port), ("naive", &naive.map_err(number)))?;
+    match original {
+        Some(original) if port.is_ok() => {
+            let original = original().map_err(number);
+            same(input, ("port", &port), ("original", &original))
+        }
+        _ => Ok(()),
+    }
+}

@@ -1,0 +1,156 @@
+//! The calls on single frames and bitmaps.
+
+use std::hint::black_box;
+
+use compare::inputs::Random;
+use mtb_align::{Gray, Percentile};
+use naive::bitmap::{Bitmap, words_needed};
+use naive::gray::Frame;
+use naive::shrink::Shrink;
+use port::frames as port;
+
+use crate::inputs::Input;
+use crate::race::race;
+use crate::{Timed, timed};
+
+const PERCENTILE: u8 = 50;
+const TOLERANCE: u8 = 4;
+
+fn frame(input: &Input) -> Frame<'_> {
+    let (width, height) = input.size;
+    Frame::new(&input.samples, width, height)
+}
+
+fn gray(input: &Input) -> Gray {
+    let (width, height) = input.size;
+    Gray::from_vec(input.samples.clone(), width, height)
+}
+
+pub fn from_rgb(input: &Input) -> Vec<Timed> {
+    let (width, height) = input.size;
+    let rgb: Vec<u8> = input.samples.iter().flat_map(|&s| [s, s, s]).collect();
+    let mut out = vec![0; width * height];
+    let times = race([
+        &mut || _ = black_box(Gray::from_rgb(black_box(&rgb), width, height)),
+        &mut || accepted(port::from_rgb(black_box(&rgb), width, height, &mut out)),
+    ]);
+    vec![timed("from_rgb", 1.0, input, times)]
+}
+
+pub fn shrink2(input: &Input) -> Vec<Timed> {
+    let (width, height) = input.size;
+    let (gray, frame) = (gray(input), frame(input));
+    let mut out = vec![0; (width / 2) * (height / 2)];
+    let mut times = |original, mode| {
+        race([
+            &mut || _ = black_box(mtb_align::shrink2(black_box(&gray), original)),
+            &mut || accepted(port::shrink2(black_box(frame), mode, &mut out)),
+        ])
+    };
+    let average = times(mtb_align::Shrink::Average, Shrink::Average);
+    let subsample = times(mtb_align::Shrink::Subsample, Shrink::Subsample);
+    vec![
+        timed("shrink2 average", 2.0, input, average),
+        timed("shrink2 subsample", 2.0, input, subsample),
+    ]
+}
+
+/// The cut and the bitmaps in one race, as packing alone is their difference.
+pub fn cut_and_bitmaps(input: &Input) -> Vec<Timed> {
+    let (width, height) = input.size;
+    let (gray, frame) = (gray(input), frame(input));
+    let percentile = Percentile::new(PERCENTILE);
+    let mut cut = 0;
+    let mut threshold = vec![0; words_needed(width, height)];
+    let mut exclusion = threshold.clone();
+    let [cut_of_original, cut_of_port, original, port] = race([
+        &mut || _ = black_box(mtb_align::threshold(black_box(&gray), percentile)),
+        &mut || accepted(port::threshold(black_box(frame), PERCENTILE, &mut cut)),
+        &mut || {
+            let gray = black_box(&gray);
+            black_box(mtb_align::compute_bitmaps(gray, percentile, TOLERANCE));
+        },
+        &mut || {
+            accepted(port::compute_bitmaps(
+                black_box(frame),
+                PERCENTILE,
+                TOLERANCE,
+                &mut threshold,
+                &mut exclusion,
+            ));
+        },
+    ]);
+    vec![
+        timed("threshold", 1.0, input, [cut_of_original, cut_of_port]),
+        timed("compute_bitmaps", 2.5, input, [original, port]),
+        timed("packing alone", 5.0, input, [original, port - cut_of_port]),
+    ]
+}
+
+/// The threshold bitmap of a frame, on both sides.
+fn bitmaps(input: &Input) -> (mtb_align::Bitmap, Vec<u64>) {
+    let percentile = Percentile::new(PERCENTILE);
+    let bitmap = mtb_align::compute_bitmaps(&gray(input), percentile, TOLERANCE).threshold;
+    let words = compare::original::words_of(&bitmap);
+    (bitmap, words)
+}
+
+pub fn count_ones(input: &Input) -> Vec<Timed> {
+    let (bitmap, words) = bitmaps(input);
+    let lent = Bitmap::new(&words, input.size.0, input.size.1);
+    let mut total = 0;
+    let times = race([
+        &mut || _ = black_box(black_box(&bitmap).count_ones()),
+        &mut || accepted(port::count_ones(black_box(lent), &mut total)),
+    ]);
+    vec![timed("count_ones", 1.0, input, times)]
+}
+
+/// Single pixels at places that jump about.
+pub fn pixels(input: &Input) -> Vec<Timed> {
+    let (width, height) = input.size;
+    let mut random = Random::new(2);
+    let places: Vec<(usize, usize)> = (0..1024)
+        .map(|_| (random.below(width), random.below(height)))
+        .collect();
+    let per_call = |times: [f64; 2]| times.map(|time| time / places.len() as f64);
+
+    let (mut bitmap, mut words) = bitmaps(input);
+    let mut pixel = false;
+    let get = race([
+        &mut || {
+            for &(x, y) in &places {
+                black_box(black_box(&bitmap).get(x, y));
+            }
+        },
+        &mut || {
+            for &(x, y) in &places {
+                let lent = Bitmap::new(&words, width, height);
+                accepted(port::get(black_box(lent), x, y, &mut pixel));
+                black_box(pixel);
+            }
+        },
+    ]);
+    let set = race([
+        &mut || {
+            for &(x, y) in &places {
+                black_box(&mut bitmap).set(x, y, x > y);
+            }
+        },
+        &mut || {
+            for &(x, y) in &places {
+                let lent = black_box(&mut words);
+                accepted(port::set(lent, width, height, x, y, x > y));
+            }
+        },
+    ]);
+    vec![
+        timed("get", 1.0, input, per_call(get)),
+        timed("set", 1.0, input, per_call(set)),
+    ]
+}
+
+/// A refusal would be quick.
+fn accepted(status: u32) {
+    assert_eq!(status, 0, "the port refused");
+}

@@ -1,0 +1,127 @@
+//! Times the original and the port in one run on the same inputs and prints a table
+//! for each call.
+
+mod frames;
+mod inputs;
+mod race;
+
+use inputs::{Input, Kind, SIZES, Size};
+
+/// The time of a call on an input, in nanoseconds: of the original, then of the port.
+struct Timed {
+    call: &'static str,
+    /// How many times as fast as the original the port is meant to be.
+    goal: f64,
+    size: Size,
+    kind: Kind,
+    times: [f64; 2],
+}
+
+fn timed(call: &'static str, goal: f64, input: &Input, times: [f64; 2]) -> Timed {
+    Timed {
+        call,
+        goal,
+        size: input.size,
+        kind: input.kind,
+        times,
+    }
+}
+
+impl Timed {
+    fn ratio(&self) -> f64 {
+        self.times[0] / self.times[1]
+    }
+}
+
+/// Calls timed on every input.
+const CALLS: [fn(&Input) -> Vec<Timed>; 4] = [
+    frames::from_rgb,
+    frames::shrink2,
+    frames::cut_and_bitmaps,
+    frames::count_ones,
+];
+
+/// Calls whose time has nothing to do with the input.
+const CALLS_ON_ONE: [fn(&Input) -> Vec<Timed>; 1] = [frames::pixels];
+const ONE: Size = (640, 480);
+
+fn main() {
+    println!(
+        "Nanoseconds of processor time per call, the least of {} rounds in which both sides
+take turns.
+Both are built for release without overflow checks. The original allocates its answer
+in every call and frees it, the port writes to buffers made before.
+The ratio is original to port; `<` marks one below the goal.
+Packing alone is compute_bitmaps less threshold on the port's side, and the whole of
+compute_bitmaps on the original's. Percentile 50, tolerance 4.
+Inputs: noise, any bytes; pins, even rows of bright pins, 6 of 16 columns and 24 of 40
+rows, in light that changes by row; flat, 128 throughout. RGB has each sample thrice.",
+        race::ROUNDS
+    );
+
+    let mut all = Vec::new();
+    for size in SIZES {
+        for kind in Kind::ALL {
+            let input = Input::new(size, kind);
+            all.extend(CALLS.iter().flat_map(|call| call(&input)));
+        }
+    }
+    let input = Input::new(ONE, Kind::Noise);
+    all.extend(CALLS_ON_ONE.iter().flat_map(|call| call(&input)));
+
+    let mut calls: Vec<&str> = Vec::new();
+    for timed in &all {
+        if !calls.contains(&timed.call) {
+            calls.push(timed.call);
+        }
+    }
+    for call in calls {
+        let of_call: Vec<&Timed> = all.iter().filter(|timed| timed.call == call).collect();
+        print_table(call, &of_call);
+    }
+
+    println!();
+    let below = all.iter().filter(|timed| timed.ratio() < timed.goal);
+    println!("below the goal: {} of {}", below.count(), all.len());
+    for timed in all.iter().filter(|timed| timed.ratio() < 1.0) {
+        let ((width, height), kind) = (timed.size, timed.kind.name());
+        print!("slower than the original: {} ", timed.call);
+        println!("{width}x{height} {kind}, ratio {:.2}", timed.ratio());
+    }
+}
+
+/// A row for each size, three columns for each kind of input.
+fn print_table(call: &str, of_call: &[&Timed]) {
+    let rows: Vec<&[&Timed]> = of_call
+        .chunk_by(|one, next| one.size == next.size)
+        .collect();
+
+    println!();
+    print!("{:24}", format!("{call}, goal {}", of_call[0].goal));
+    for timed in rows[0] {
+        print!("{:>33}", timed.kind.name());
+    }
+    println!();
+    print!("{:24}", "");
+    for _ in rows[0] {
+        print!("{:>13}{:>12}{:>8}", "original", "port", "ratio");
+    }
+    println!();
+
+    for row in rows {
+        let (width, height) = row[0].size;
+        print!("{:24}", format!("{width}x{height}"));
+        for timed in row {
+            let [original, port] = timed.times.map(nanoseconds);
+            let mark = if timed.ratio() < timed.goal { "<" } else { " " };
+            print!("{original:>13}{port:>12}{:>7.2}{mark}", timed.ratio());
+        }
+        println!();
+    }
+}
+
+/// Tenths only where they say something.
+fn nanoseconds(time: f64) -> String {
+    let tenths = if time < 100.0 { 1 } else { 0 };
+    format!("{time:.tenths$}")
+}

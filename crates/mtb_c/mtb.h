@@ -1,0 +1,68 @@
+/*
+ * The port's calls for C callers. Link libmtb_c.a, which `rt staticlib mtb_c` writes to target/staticlib (x86-64).
+ *
+ * A call returns its status: 0 accepted, else the number of the first check that fails, in the order given with the call.
+ *    1  side over 8,192                           7  scratch too short
+ *    2  list or buffer of the wrong length        8  padding bit set
+ *    3  percentile over 100                       9  reach over 64
+ *    4  sizes differ                             10  record space too short
+ *    5  no such reference                        11  pixel outside
+ *    6  over 16 frames                           12  coordinate outside 32 bits
+ * A refused call changes no buffer.
+ *
+ * A list passes as a pointer and its length in elements. Pointers are aligned and never null, not at length 0 either, and what a
+ * call writes overlaps nothing else that it is lent.
+ *
+ * A frame has width * height samples, row by row. A bitmap has ceil(width / 64) words a row, lowest bit first; the bits of a row
+ * past the width are its padding.
+ */
+#ifndef MTB_H
+#define MTB_H
+
+#include <stdbool.h>
+#include <stddef.h>
+#include <stdint.h>
+
+#ifdef __cplusplus
+extern "C" {
+#endif
+
+/* Grey from RGB: (54 red + 183 green + 19 blue) / 256, rounded down. Refused: 1; 2 for rgb (3 bytes a pixel), gray. Writes gray. */
+uint32_t mtb_from_rgb(const uint8_t *rgb, size_t rgb_length, size_t width, size_t height,
+                      uint8_t *gray, size_t gray_length);
+
+/* Halves both sides, rounded down: (sum of four + 2) / 4, or the upper left if subsampled. Refused: 1; 2 for samples, shrunk. Writes shrunk. */
+uint32_t mtb_shrink2(const uint8_t *samples, size_t samples_length, size_t width, size_t height,
+                     bool subsampled, uint8_t *shrunk, size_t shrunk_length);
+
+/* The cut, 0 to 256: how many bins from 0 up it takes to hold samples * percentile / 100. Refused: 1; 2 for samples; 3. Writes cut. */
+uint32_t mtb_threshold(const uint8_t *samples, size_t samples_length, size_t width, size_t height,
+                       uint8_t percentile, uint16_t *cut);
+
+/* Sets bits above the cut, and bits farther from it than tolerance. Refused: 1; 2 for samples, either bitmap; 3. Writes both, padding clear. */
+uint32_t mtb_compute_bitmaps(const uint8_t *samples, size_t samples_length, size_t width, size_t height,
+                             uint8_t percentile, uint8_t tolerance,
+                             uint64_t *threshold, size_t threshold_length,
+                             uint64_t *exclusion, size_t exclusion_length);
+
+/* Reads the pixel of column x and row y. Refused: 1; 2 for words; 11. Writes pixel. */
+uint32_t mtb_get(const uint64_t *words, size_t words_length, size_t width, size_t height,
+                 size_t x, size_t y, bool *pixel);
+
+/* Sets the pixel of column x and row y to value. Refused: 1; 2 for words; 11. Writes that bit of words and no other. */
+uint32_t mtb_set(uint64_t *words, size_t words_length, size_t width, size_t height,
+                 size_t x, size_t y, bool value);
+
+/* Counts the set bits. Refused: 1; 2 for words; 8. Writes total. */
+uint32_t mtb_count_ones(const uint64_t *words, size_t words_length, size_t width, size_t height,
+                        uint64_t *total);
+
+/* Returns, in place of a status, the number of words of row y: 0 where 1, 2 or 11 holds. Writes them to the front of out if they fit. */
+size_t mtb_row(const uint64_t *words, size_t words_length, size_t width, size_t height,
+               size_t y, uint64_t *out, size_t out_length);
+
+#ifdef __cplusplus
+}
+#endif
+
+#endif
