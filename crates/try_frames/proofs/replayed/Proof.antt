@@ -7,24 +7,16 @@ use Rattle.try_frames.proofs.replayed.Statement.{statement}
 use Rattle.try_frames.proofs.replayed.Tie as tie
 
 abbrev Inv-loop : tie.InvT-loop
-Inv-loop text numbers₀ cases₀ next₀ t6 numbers cases next =
-    length numbers ≡ 9216
+Inv-loop text numbers₀ cases₀ next₀ numbers cases next = length numbers ≡ 9216
 
 abbrev μ-loop : tie.MeasureT-loop
-μ-loop text numbers₀ cases₀ next₀ t6 numbers cases next =
-    100000 - cases
+μ-loop text numbers₀ cases₀ next₀ numbers cases next = 100000 - cases
 
 loop-holds : tie.Need-loop-holds Inv-loop μ-loop
 loop-holds c = search needs
 
-print-decimal-requires : tie.Need-print-decimal-requires Inv-loop μ-loop
-print-decimal-requires c κs = search needs
-
-slice-aggregate-write-all : tie.Need-slice-aggregate-write-all Inv-loop μ-loop
-slice-aggregate-write-all c = search needs
-
-write-all-requires : tie.Need-write-all-requires Inv-loop μ-loop
-write-all-requires c κs = search needs
+conclude-requires : tie.Need-conclude-requires Inv-loop μ-loop
+conclude-requires c κs = search needs
 
 returns : tie.Need-returns Inv-loop μ-loop
 returns c = search needs
@@ -47,8 +39,8 @@ slice-aggregate-at c = search needs
 at-requires : tie.Need-at-requires Inv-loop μ-loop
 at-requires c κs = search needs
 
-say-requires : tie.Need-say-requires Inv-loop μ-loop
-say-requires c κs = search needs
+conclude-requires-2 : tie.Need-conclude-requires-2 Inv-loop μ-loop
+conclude-requires-2 c κs = search needs
 
 returns-2 : tie.Need-returns-2 Inv-loop μ-loop
 returns-2 c = search needs
@@ -72,9 +64,7 @@ replayed-spec =
     Inv-loop
     μ-loop
     loop-holds
-    print-decimal-requires
-    slice-aggregate-write-all
-    write-all-requires
+    conclude-requires
     returns
     slice-aggregate-read-line
     read-line-requires
@@ -82,7 +72,7 @@ replayed-spec =
     agrees-requires
     slice-aggregate-at
     at-requires
-    say-requires
+    conclude-requires-2
     returns-2
     add-cases
     loop-less
