@@ -55,6 +55,9 @@ pub fn shrink2(input: &Input) -> Vec<Timed> {
     ]
 }
 
+pub const THRESHOLD: &str = "threshold";
+pub const COMPUTE_BITMAPS: &str = "compute_bitmaps";
+
 /// The cut and the bitmaps in one race, as packing alone is their difference.
 pub fn cut_and_bitmaps(input: &Input) -> Vec<Timed> {
     let (width, height) = input.size;
@@ -81,10 +84,23 @@ pub fn cut_and_bitmaps(input: &Input) -> Vec<Timed> {
         },
     ]);
     vec![
-        timed("threshold", 1.0, input, [cut_of_original, cut_of_port]),
-        timed("compute_bitmaps", 2.5, input, [original, port]),
-        timed("packing alone", 5.0, input, [original, port - cut_of_port]),
+        timed(THRESHOLD, 1.0, input, [cut_of_original, cut_of_port]),
+        timed(COMPUTE_BITMAPS, 2.5, input, [original, port]),
     ]
+}
+
+/// Packing without the cut on the port's side; the whole on the original's.
+pub fn packing_alone(all: &[Timed]) -> Vec<Timed> {
+    let of = |call: &'static str| all.iter().filter(move |timed| timed.call == call);
+    of(COMPUTE_BITMAPS)
+        .zip(of(THRESHOLD))
+        .map(|(whole, cut)| Timed {
+            call: "packing alone",
+            goal: 5.0,
+            times: [whole.times[0], whole.times[1] - cut.times[1]],
+            ..*whole
+        })
+        .collect()
 }
 
 /// The threshold bitmap of a frame, on both sides.

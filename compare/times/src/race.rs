@@ -1,6 +1,6 @@
 //! How long calls take when they are run in turn.
 
-pub const ROUNDS: usize = 30;
+pub const ROUNDS: usize = 12;
 /// What a turn takes at least, in nanoseconds: little, so that many are undisturbed.
 const TURN: f64 = 600_000.0;
 

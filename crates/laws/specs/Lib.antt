@@ -24,3 +24,14 @@ pub mod ChecksGeometry
 pub mod Runs
 pub mod Axis
 pub mod Pyramids
+pub mod Beside
+pub mod Packed
+pub mod ChecksStep
+pub mod Free
+pub mod Walks
+pub mod Moved
+pub mod Grids
+pub mod Joints
+pub mod MovedRows
+pub mod Overlaps
+pub mod ChecksDifference

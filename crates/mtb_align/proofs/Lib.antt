@@ -1,7 +1,12 @@
 -- Laws that the proofs of several functions cite.
+pub mod Costs
+pub mod Counting
+pub mod Four
 pub mod Halves
 pub mod Lanes
+pub mod Nine
 pub mod Pixels
 pub mod Rows
+pub mod Stacked
 pub mod Two
 pub mod Within

@@ -67,7 +67,7 @@ row-words w f = build-length (wordsPerRow w) _
 
 module _ (s : List ℕ) (test : ℕ → ℕ) (w h : ℕ) where
   -- row y
-  pub rowAt : ℕ → List ℕ
+  unfoldable pub rowAt : ℕ → List ℕ
   rowAt y = rowWords w (bitsFrom s test (y * w))
 
   pub row-at-words : (y : ℕ) → length (rowAt y) ≡ wordsPerRow w

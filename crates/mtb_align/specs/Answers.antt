@@ -23,6 +23,13 @@ use Rattle.mtb_align.specs.declared.geometry.ShiftAnswer.{ShiftAnswer}
 use Rattle.mtb_align.specs.declared.geometry.ShiftAnswer.the-variants as moves
 use Rattle.mtb_align.specs.declared.geometry.CropAnswer.{CropAnswer}
 use Rattle.mtb_align.specs.declared.geometry.CropAnswer.the-variants as crops
+use Rattle.definitions.specs.Difference as difference
+use Rattle.mtb_align.specs.declared.difference.Counts.{Counts}
+use Rattle.mtb_align.specs.declared.difference.CountsAnswer.{CountsAnswer}
+use Rattle.mtb_align.specs.declared.difference.CountsAnswer.the-variants as counted
+use Rattle.mtb_align.specs.declared.align.Step.{Step}
+use Rattle.mtb_align.specs.declared.align.StepAnswer.{StepAnswer}
+use Rattle.mtb_align.specs.declared.align.StepAnswer.the-variants as steps
 use Rattle.mtb_align.specs.declared.error.Outcome.{Outcome}
 use Rattle.mtb_align.specs.declared.error.Outcome.the-variants.{Done, Refused}
 
@@ -109,3 +116,23 @@ shiftAnswer (moves.Refused e) = refusal e
 abbrev pub cropAnswer : CropAnswer → Answer geometry.Rect
 cropAnswer (crops.Crop r) = accepted (rectIn r)
 cropAnswer (crops.Refused e) = refusal e
+
+-- Both counts.
+abbrev pub countsIn : Counts → difference.Counts
+countsIn c = record { disagreeing = c .disagreeing; compared = c .compared }
+
+abbrev pub countsAnswer : CountsAnswer → Answer difference.Counts
+countsAnswer (counted.Counted c) = accepted (countsIn c)
+countsAnswer (counted.Refused e) = refusal e
+
+-- A step with the number of comparisons made.
+pub record Stepped : Type 0 where
+  pub shift : geometry.Shift
+  pub comparisons : ℕ
+
+abbrev pub steppedIn : Step → Stepped
+steppedIn s = record { shift = shiftIn (s .shift); comparisons = s .comparisons }
+
+abbrev pub stepAnswer : StepAnswer → Answer Stepped
+stepAnswer (steps.Stepped s) = accepted (steppedIn s)
+stepAnswer (steps.Refused e) = refusal e

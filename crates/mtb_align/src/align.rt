@@ -1,19 +1,35 @@
-// Levels and pyramids.
+// Levels and pyramids, the search over the nine, the step of two frames, and the stack.
+use super::bitmap::words_per_row;
+use super::difference::count;
 use super::error::Error;
 use super::error::Outcome;
+use super::error::Size;
 use super::error::side_over;
+use super::geometry::Shift;
 use super::shrink::Shrink;
 use super::shrink::halve;
 use super::shrink::halve_within;
+use super::strips::pack_at;
+use super::threshold::cut_of;
+ghost use Rattle.laws.specs.Bitmaps.{IsBitmap};
+ghost use Rattle.laws.specs.Steps.{Within};
 ghost use mathlib.Core.Path.{_≡_};
+ghost use mathlib.Core.Bool.{cond};
 ghost use mathlib.Core.List.{[], _++_};
 ghost use Prim.Native.Nat.{_+_, _-_, _*_, _≤_, min, max};
 ghost use lib.ListN.{length, drop};
+ghost use lib.Dec.{ltb};
 ghost use lib.Seq.{sets};
-ghost use Rattle.definitions.specs.Shrink.{halvedSamples, pyramid, levelPart};
-ghost use Rattle.definitions.specs.Align.{log2, levels};
-ghost use Rattle.definitions.specs.Refusals.{answer, after, pyramidChecks};
-ghost use Rattle.mtb_align.specs.Answers.{outcome, modeOf};
+ghost use Rattle.definitions.specs.Shrink.{sideAt, halvedSamples, pyramid, levelPart};
+ghost use Rattle.definitions.specs.Geometry.{offset, doubled, listed};
+ghost use Rattle.definitions.specs.Bitmap.{bitmapWords};
+ghost use Rattle.definitions.specs.Align.{log2, levels, tried, refine, stepAt, comparisonsAt, costOf, step, comparisons, stackOf, shifts, stepBytes, stepWords, stackNeed};
+ghost use Rattle.definitions.specs.Refusals.{answer, after, FreeUpTo, Scratch, unequal, pyramidChecks, stepChecks, stackChecks};
+ghost use Rattle.mtb_align.specs.Answers.{outcome, modeOf, shiftIn, steppedIn, stepAnswer, Stepped};
+ghost use Rattle.mtb_align.specs.Nine.{costOfMaps};
+ghost use Rattle.mtb_align.specs.declared.shrink.Shrink.the-variants.{Average, Subsample};
+ghost use Rattle.mtb_align.specs.Levelled.{Levelled};
+ghost use Rattle.mtb_align.specs.Search.{FourMaps, costIn, costBetween, exposureOf, optionsIn};
 
 // The base-two logarithm, rounded down.
 fn log_of(n: usize) -> usize
@@ -165,4 +181,500 @@ pub fn level<'a>(
     let start = halved_samples(width, height, k - 1);
     let end = halved_samples(width, height, k);
     &scratch[start..end]
+}
+
+// How the search is run.
+pub struct Options {
+    pub bits: u32,
+    pub tolerance: u8,
+    pub percentile: u8,
+    pub shrink: Shrink,
+}
+
+// A step, and how many comparisons it took.
+pub struct Step {
+    pub shift: Shift,
+    pub comparisons: u64,
+}
+
+impl Options {
+    // Six bits are Ward's figure, for frames of three megapixels.
+    pub fn default() -> Options
+        ensures { λ r. ⌜ (r .bits ≡ 6) × (r .tolerance ≡ 4) × (r .percentile ≡ 50) × (r .shrink ≡ Average) ⌝ }
+    {
+        Options {
+            bits: 6,
+            tolerance: 4,
+            percentile: 50,
+            shrink: Shrink::Average,
+        }
+    }
+
+    // The conventions that OpenCV's `AlignMTB` uses, for comparing against it.
+    pub fn opencv() -> Options
+        ensures { λ r. ⌜ (r .bits ≡ 6) × (r .tolerance ≡ 4) × (r .percentile ≡ 50) × (r .shrink ≡ Subsample) ⌝ }
+    {
+        Options {
+            bits: 6,
+            tolerance: 4,
+            percentile: 50,
+            shrink: Shrink::Subsample,
+        }
+    }
+}
+
+pub enum StepAnswer {
+    Stepped(Step),
+    Refused(Error),
+}
+
+// Ward's nine, centre first, so that a tie stays at the centre.
+const CANDIDATES: [Shift; 9] = [
+    Shift { x: 0, y: 0 },
+    Shift { x: -1, y: -1 },
+    Shift { x: -1, y: 0 },
+    Shift { x: -1, y: 1 },
+    Shift { x: 0, y: -1 },
+    Shift { x: 0, y: 1 },
+    Shift { x: 1, y: -1 },
+    Shift { x: 1, y: 0 },
+    Shift { x: 1, y: 1 },
+];
+
+// A shift of the search with its disagreement.
+struct Found {
+    shift: Shift,
+    error: u64,
+}
+
+// A shift and a candidate, summed: both are small, so that the sum fits.
+fn near(around: Shift, candidate: Shift) -> Shift
+    requires { ⌜ Within 65536 (shiftIn around) × Within 1 (shiftIn candidate) ⌝ }
+    ensures { λ r. ⌜ shiftIn r ≡ offset (shiftIn around) (shiftIn candidate) ⌝ }
+{
+    Shift {
+        x: around.x + candidate.x,
+        y: around.y + candidate.y,
+    }
+}
+
+// The best so far, or a later shift that disagrees in fewer pixels.
+fn better(best: Found, shift: Shift, error: u64) -> Found
+    ensures { λ r. ⌜ r ≡ cond (ltb error (best .error)) (record { shift = shift; error = error }) best ⌝ }
+{
+    if error < best.error {
+        return Found { shift, error };
+    }
+    best
+}
+
+// The best of the nine offsets within a pixel of `around`, over the threshold and exclusion bitmaps of a reference and a target.
+fn best_of_nine(
+    rt: &[u64],
+    re: &[u64],
+    st: &[u64],
+    se: &[u64],
+    width: usize,
+    height: usize,
+    around: Shift,
+) -> Step
+    requires { ⌜ (width ≤ 8192) × (height ≤ 8192) × Within 65536 (shiftIn around) ⌝ }
+    requires { ⌜ IsBitmap (now rt) width height × IsBitmap (now re) width height × IsBitmap (now st) width height × IsBitmap (now se) width height ⌝ }
+    ensures { λ r. ⌜
+        (shiftIn (r .shift) ≡ refine (costOfMaps width height (now (rt .entry)) (now (re .entry)) (now (st .entry)) (now (se .entry))) (shiftIn around))
+        × (r .comparisons ≡ length (tried (costOfMaps width height (now (rt .entry)) (now (re .entry)) (now (st .entry)) (now (se .entry))) (shiftIn around)))
+        ⌝ }
+{
+    let centre = near(around, CANDIDATES[0]);
+    let counts = count(rt, re, st, se, width, height, centre);
+    let mut best = Found {
+        shift: centre,
+        error: counts.disagreeing,
+    };
+    let mut made: u64 = 1;
+    for i in 1..9 {
+        let candidate = near(around, CANDIDATES[i]);
+        let counts = count(rt, re, st, se, width, height, candidate);
+        best = better(best, candidate, counts.disagreeing);
+        made += 1;
+    }
+    let shift = best.shift;
+    Step {
+        shift,
+        comparisons: made,
+    }
+}
+
+// The best of the nine offsets within a pixel of `around`, over four bitmaps one after another.
+fn refine(words: &[u64], width: usize, height: usize, around: Shift) -> Step
+    requires { ⌜ (width ≤ 8192) × (height ≤ 8192) × (length (now words) ≡ 4 * bitmapWords width height) × FourMaps (now words) width height × Within 65536 (shiftIn around) ⌝ }
+    ensures { λ r. ⌜
+        (shiftIn (r .shift) ≡ refine (costIn (now (words .entry)) width height) (shiftIn around))
+        × (r .comparisons ≡ length (tried (costIn (now (words .entry)) width height) (shiftIn around)))
+        ⌝ }
+{
+    let n = height * words_per_row(width);
+    let second = 2 * n;
+    let third = 3 * n;
+    let end = 4 * n;
+    best_of_nine(
+        &words[0..n],
+        &words[n..second],
+        &words[second..third],
+        &words[third..end],
+        width,
+        height,
+        around,
+    )
+}
+
+// One level: both frames cut and packed, and the best of the nine around a shift.
+fn level_step(
+    reference: &[u8],
+    target: &[u8],
+    width: usize,
+    height: usize,
+    first: u8,
+    second: u8,
+    tolerance: u8,
+    words: &mut [u64],
+    around: Shift,
+) -> Step
+    requires { ⌜
+        (width ≤ 8192) × (height ≤ 8192) × (first ≤ 100) × (second ≤ 100)
+        × (length (now reference) ≡ width * height) × (length (now target) ≡ width * height)
+        × (4 * bitmapWords width height ≤ length (now words))
+        × Within 65536 (shiftIn around)
+        ⌝ }
+    ensures { λ r. ⌜
+        (shiftIn (r .shift) ≡ refine (costBetween width height tolerance (exposureOf (now (reference .entry)) first) (exposureOf (now (target .entry)) second)) (shiftIn around))
+        × (r .comparisons ≡ length (tried (costBetween width height tolerance (exposureOf (now (reference .entry)) first) (exposureOf (now (target .entry)) second)) (shiftIn around)))
+        ⌝ }
+    ensures { λ _. ⌜ FreeUpTo (4 * bitmapWords width height) (now (words .entry)) (now (words .exit)) ⌝ }
+{
+    let n = height * words_per_row(width);
+    pack_at(
+        reference,
+        width,
+        height,
+        cut_of(reference, width, height, first),
+        tolerance,
+        words,
+        0,
+    );
+    pack_at(
+        target,
+        width,
+        height,
+        cut_of(target, width, height, second),
+        tolerance,
+        words,
+        2 * n,
+    );
+    refine(&words[0..4 * n], width, height, around)
+}
+
+// A side at a level.
+fn side_at(side: usize, level: usize) -> usize
+    requires { ⌜ level ≤ 12 ⌝ }
+    ensures { λ r. ⌜ r ≡ sideAt level side ⌝ }
+{
+    side >> level
+}
+
+// Twice a small shift, the same place at the next finer level.
+fn twice(shift: Shift) -> Shift
+    requires { ⌜ Within 32768 (shiftIn shift) ⌝ }
+    ensures { λ r. ⌜ shiftIn r ≡ doubled (shiftIn shift) ⌝ }
+{
+    Shift {
+        x: shift.x + shift.x,
+        y: shift.y + shift.y,
+    }
+}
+
+// The best of the nine around a shift at a level of a walk, whose two images are the frames or stand in `bytes`.
+fn step_around(
+    reference: &[u8],
+    target: &[u8],
+    width: usize,
+    height: usize,
+    first: u8,
+    second: u8,
+    options: Options,
+    bytes: &[u8],
+    words: &mut [u64],
+    level: usize,
+    last: usize,
+    around: Shift,
+) -> Step
+    requires { ⌜ Levelled (modeOf (options .shrink)) width height last (exposureOf (now reference) first) (exposureOf (now target) second) (now bytes) (now words) ⌝ }
+    requires { ⌜ (level ≤ last) × Within 65536 (shiftIn around) ⌝ }
+    ensures { λ r. ⌜
+        (shiftIn (r .shift) ≡ refine (costOf (optionsIn options) width height (exposureOf (now (reference .entry)) first) (exposureOf (now (target .entry)) second) level) (shiftIn around))
+        × (r .comparisons ≡ length (tried (costOf (optionsIn options) width height (exposureOf (now (reference .entry)) first) (exposureOf (now (target .entry)) second) level) (shiftIn around)))
+        ⌝ }
+    ensures { λ _. ⌜ FreeUpTo (stepWords width height) (now (words .entry)) (now (words .exit)) ⌝ }
+{
+    let tolerance = options.tolerance;
+    if level == 0 {
+        return level_step(
+            reference,
+            target,
+            width,
+            height,
+            first,
+            second,
+            tolerance,
+            words,
+            around,
+        );
+    }
+    let start = halved_samples(width, height, level - 1);
+    let end = halved_samples(width, height, level);
+    let half = halved_samples(width, height, last);
+    let behind = half + start;
+    let behind_end = half + end;
+    level_step(
+        &bytes[start..end],
+        &bytes[behind..behind_end],
+        side_at(width, level),
+        side_at(height, level),
+        first,
+        second,
+        tolerance,
+        words,
+        around,
+    )
+}
+
+// The step at a level, and the comparisons made from the last level to it: the best of the nine around twice the step at the next
+// coarser level. The reference's halved levels stand in `bytes` from its start, the target's behind them.
+fn step_at(
+    reference: &[u8],
+    target: &[u8],
+    width: usize,
+    height: usize,
+    first: u8,
+    second: u8,
+    options: Options,
+    bytes: &[u8],
+    words: &mut [u64],
+    level: usize,
+    last: usize,
+) -> Step
+    requires { ⌜ Levelled (modeOf (options .shrink)) width height last (exposureOf (now reference) first) (exposureOf (now target) second) (now bytes) (now words) ⌝ }
+    requires { ⌜ level ≤ last ⌝ }
+    ensures { λ r. ⌜
+        (shiftIn (r .shift) ≡ stepAt (costOf (optionsIn options) width height (exposureOf (now (reference .entry)) first) (exposureOf (now (target .entry)) second)) level (last - level))
+        × (r .comparisons ≡ comparisonsAt (costOf (optionsIn options) width height (exposureOf (now (reference .entry)) first) (exposureOf (now (target .entry)) second)) level (last - level))
+        ⌝ }
+    ensures { λ _. ⌜ FreeUpTo (stepWords width height) (now (words .entry)) (now (words .exit)) ⌝ }
+{
+    if level == last {
+        let around = Shift { x: 0, y: 0 };
+        return step_around(
+            reference,
+            target,
+            width,
+            height,
+            first,
+            second,
+            options,
+            bytes,
+            words,
+            level,
+            last,
+            around,
+        );
+    }
+    let coarser = step_at(
+        reference,
+        target,
+        width,
+        height,
+        first,
+        second,
+        options,
+        bytes,
+        words,
+        level + 1,
+        last,
+    );
+    let coarser_shift = coarser.shift;
+    let around = twice(coarser_shift);
+    let found = step_around(
+        reference,
+        target,
+        width,
+        height,
+        first,
+        second,
+        options,
+        bytes,
+        words,
+        level,
+        last,
+        around,
+    );
+    let best = found.shift;
+    Step {
+        shift: best,
+        comparisons: coarser.comparisons + found.comparisons,
+    }
+}
+
+// The step of a target against a reference of its size, with a percentile for each, in scratch that is long enough.
+pub(crate) fn step_of(
+    reference: &[u8],
+    target: &[u8],
+    width: usize,
+    height: usize,
+    first: u8,
+    second: u8,
+    options: Options,
+    bytes: &mut [u8],
+    words: &mut [u64],
+) -> Step
+    requires { ⌜
+        (width ≤ 8192) × (height ≤ 8192) × (first ≤ 100) × (second ≤ 100)
+        × (length (now reference) ≡ width * height) × (length (now target) ≡ width * height)
+        × (stepBytes width height (options .bits) ≤ length (now bytes))
+        × (stepWords width height ≤ length (now words))
+        ⌝ }
+    ensures { λ r. ⌜
+        (shiftIn (r .shift) ≡ step (optionsIn options) width height (exposureOf (now (reference .entry)) first) (exposureOf (now (target .entry)) second))
+        × (r .comparisons ≡ comparisons (optionsIn options) width height (exposureOf (now (reference .entry)) first) (exposureOf (now (target .entry)) second))
+        ⌝ }
+    ensures { λ _. ⌜ FreeUpTo (stepBytes width height (options .bits)) (now (bytes .entry)) (now (bytes .exit)) ⌝ }
+    ensures { λ _. ⌜ FreeUpTo (stepWords width height) (now (words .entry)) (now (words .exit)) ⌝ }
+{
+    let shrink = options.shrink;
+    let last = shrinks(width, height, options.bits);
+    let half = halved_samples(width, height, last);
+    fill(reference, width, height, last, shrink, bytes, 0);
+    fill(target, width, height, last, shrink, bytes, half);
+    step_at(
+        reference,
+        target,
+        width,
+        height,
+        first,
+        second,
+        options,
+        bytes,
+        words,
+        0,
+        last,
+    )
+}
+
+// Whether two sizes differ.
+fn sizes_differ(width: usize, height: usize, other_width: usize, other_height: usize) -> bool
+    ensures { λ r. ⌜ r ≡ unequal width height «other_width» «other_height» ⌝ }
+{
+    if width != other_width {
+        return true;
+    }
+    height != other_height
+}
+
+// Whether a reference, a target and the scratch are in order for a step, by their sizes and lengths.
+fn step_fits(
+    width: usize,
+    height: usize,
+    target_width: usize,
+    target_height: usize,
+    percentile: u8,
+    bits: u32,
+    reference: usize,
+    target: usize,
+    bytes: usize,
+    words: usize,
+) -> Outcome
+    ensures { λ r. ⌜ outcome r ≡ answer (stepChecks width height «target_width» «target_height» percentile bits reference target bytes words) tt ⌝ }
+{
+    if side_over(width, height) {
+        return Outcome::Refused(Error::Side);
+    }
+    if side_over(target_width, target_height) {
+        return Outcome::Refused(Error::Side);
+    }
+    if percentile > 100 {
+        return Outcome::Refused(Error::Percentile);
+    }
+    if sizes_differ(width, height, target_width, target_height) {
+        return Outcome::Refused(Error::SizeMismatch(
+            Size { width, height },
+            Size {
+                width: target_width,
+                height: target_height,
+            },
+        ));
+    }
+    if reference != width * height {
+        return Outcome::Refused(Error::Length);
+    }
+    if target != width * height {
+        return Outcome::Refused(Error::Length);
+    }
+    if bytes < 2 * halved_samples(width, height, shrinks(width, height, bits)) {
+        return Outcome::Refused(Error::Scratch);
+    }
+    if words < 4 * (height * words_per_row(width)) {
+        return Outcome::Refused(Error::Scratch);
+    }
+    Outcome::Done
+}
+
+// How far the target has to move to sit on the reference. Refused: 1, 3, 4, 2, 7.
+pub fn shift(
+    reference: &[u8],
+    width: usize,
+    height: usize,
+    target: &[u8],
+    target_width: usize,
+    target_height: usize,
+    options: Options,
+    bytes: &mut [u8],
+    words: &mut [u64],
+) -> StepAnswer
+    ensures answer { λ r. ⌜
+        stepAnswer r ≡ answer (stepChecks width height «target_width» «target_height» (options .percentile) (options .bits) (length (now (reference .entry))) (length (now (target .entry))) (length (now (bytes .entry))) (length (now (words .entry))))
+        (record {
+          shift = step (optionsIn options) width height (exposureOf (now (reference .entry)) (options .percentile)) (exposureOf (now (target .entry)) (options .percentile));
+          comparisons = comparisons (optionsIn options) width height (exposureOf (now (reference .entry)) (options .percentile)) (exposureOf (now (target .entry)) (options .percentile));
+        })
+        ⌝ }
+    ensures bytes { λ _. ⌜ Scratch (stepChecks width height «target_width» «target_height» (options .percentile) (options .bits) (length (now (reference .entry))) (length (now (target .entry))) (length (now (bytes .entry))) (length (now (words .entry)))) (stepBytes width height (options .bits)) (now (bytes .entry)) (now (bytes .exit)) ⌝ }
+    ensures words { λ _. ⌜ Scratch (stepChecks width height «target_width» «target_height» (options .percentile) (options .bits) (length (now (reference .entry))) (length (now (target .entry))) (length (now (bytes .entry))) (length (now (words .entry)))) (stepWords width height) (now (words .entry)) (now (words .exit)) ⌝ }
+{
+    let percentile = options.percentile;
+    match step_fits(
+        width,
+        height,
+        target_width,
+        target_height,
+        percentile,
+        options.bits,
+        reference.len(),
+        target.len(),
+        bytes.len(),
+        words.len(),
+    ) {
+        Outcome::Done => {
+            StepAnswer::Stepped(step_of(
+                reference,
+                target,
+                width,
+                height,
+                percentile,
+                percentile,
+                options,
+                bytes,
+                words,
+            ))
+        }
+        Outcome::Refused(error) => StepAnswer::Refused(error),
+    }
 }

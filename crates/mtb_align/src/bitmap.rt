@@ -32,7 +32,7 @@ pub(crate) fn words_per_row(width: usize) -> usize
 }
 
 // How many bits of a word are set.
-fn ones_of(word: u64) -> u64
+pub(crate) fn ones_of(word: u64) -> u64
     ensures { λ r. ⌜ (r ≡ sum 64 (bitOf word)) × (r ≤ 64) ⌝ }
 {
     u64::count_ones(word) as u64

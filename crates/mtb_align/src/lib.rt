@@ -1,6 +1,7 @@
 // The core of mtb-align, file by file: each module stands for the original's file of that name.
 pub mod align;
 pub mod bitmap;
+pub mod difference;
 pub mod error;
 pub mod geometry;
 pub mod gray;

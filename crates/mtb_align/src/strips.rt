@@ -9,6 +9,7 @@ ghost use Rattle.definitions.specs.Sum.{bit};
 ghost use Rattle.definitions.specs.Threshold.{thresholdBit, exclusionBit};
 ghost use Rattle.definitions.specs.Bitmap.{wordsPerRow, bitmapWords, wordOf, packed};
 ghost use Rattle.definitions.specs.Difference.{bitmapsOf};
+ghost use Rattle.mtb_align.specs.Search.{packedPair};
 ghost use Rattle.mtb_align.specs.Packing.{entryOf, tableOf, bitsFrom, twoOf, rowWords};
 
 // One word of each bitmap.
@@ -211,6 +212,83 @@ pub(crate) fn pack(
             threshold,
             exclusion,
             y * n,
+        );
+        y += 1;
+    }
+}
+
+// A row's words of both bitmaps, from the samples at `from` on, stored in one slice: those of the threshold bitmap at `at`, and
+// those of the exclusion bitmap at `behind`.
+fn pack_row_at(
+    samples: &[u8],
+    from: usize,
+    width: usize,
+    table: &[u64; 256],
+    cut: u16,
+    tolerance: u8,
+    words: &mut [u64],
+    at: usize,
+    behind: usize,
+)
+    requires { ⌜
+        (width ≤ 8192)
+        × (from + width ≤ length (now samples))
+        × (now table ≡ tableOf cut tolerance)
+        × (at + wordsPerRow width ≤ behind)
+        × (behind + wordsPerRow width ≤ length (now words))
+        ⌝ }
+    ensures { λ _. ⌜
+        now (words .exit)
+        ≡ sets (sets (now (words .entry)) at (rowWords width (bitsFrom (now (samples .entry)) (thresholdBit cut) from)))
+        behind (rowWords width (bitsFrom (now (samples .entry)) (exclusionBit cut tolerance) from))
+        ⌝ }
+{
+    let n = width / 64;
+    let span = width % 64;
+    let mut k: usize = 0;
+    while k < n {
+        let b = full(samples, from + k * 64, table, cut, tolerance);
+        words[at + k] = b.threshold;
+        words[behind + k] = b.exclusion;
+        k += 1;
+    }
+    if span == 0 {
+        return;
+    }
+    let b = part(samples, from + n * 64, span, table, cut, tolerance);
+    words[at + n] = b.threshold;
+    words[behind + n] = b.exclusion;
+}
+
+// Both bitmaps of a frame into one slice, the threshold bitmap at `at` and the exclusion bitmap behind it.
+pub(crate) fn pack_at(
+    samples: &[u8],
+    width: usize,
+    height: usize,
+    cut: u16,
+    tolerance: u8,
+    words: &mut [u64],
+    at: usize,
+)
+    requires { ⌜ (width ≤ 8192) × (height ≤ 8192) × (length (now samples) ≡ width * height) × (at + 2 * bitmapWords width height ≤ length (now words)) ⌝ }
+    ensures { λ _. ⌜ now (words .exit) ≡ sets (now (words .entry)) at (packedPair width height (now (samples .entry)) cut tolerance) ⌝ }
+{
+    let mut table = [0u64; 256];
+    fill_table(&mut table, cut, tolerance);
+    let n = (width + 63) / 64;
+    let behind = at + height * n;
+    let mut y: usize = 0;
+    while y < height {
+        pack_row_at(
+            samples,
+            y * width,
+            width,
+            &table,
+            cut,
+            tolerance,
+            words,
+            at + y * n,
+            behind + y * n,
         );
         y += 1;
     }

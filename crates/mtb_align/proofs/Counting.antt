@@ -1,0 +1,178 @@
+-- A run of words as a loop counts it, at word k: where the loop stands, what it has counted, and that the words it reads lie inside.
+-- Assumes nothing.
+use mathlib.Core.Path.{_≡_, refl, sym, ap, _∙_}
+use mathlib.Core.List.{List}
+use Prim.Native.Nat.{ℕ, _+_, _-_, _*_, _/_, _%_, _^_, _≤_, _<_, min}
+use native.Mathlib.Nat.{add-mul, mul-le-mul-right}
+use native.Mathlib.Omega.{arith}
+use lib.Bits.{bitAnd, bitXor}
+use lib.ListN.{length, getD}
+use Rattle.definitions.specs.Sum.{sum}
+use Rattle.definitions.specs.Bitmap.{bitOf, wordsPerRow}
+use Rattle.laws.specs.Bitmaps.{IsBitmap, bitmap-most}
+use Rattle.laws.specs.Joints.{Alike, Reaches, LinesReach, Counted, runSum, linesSum, run-none, run-more, lines-none, lines-more, lines-swap, spanned, edged, counted-as, counted-sum}
+use Rattle.laws.specs.MovedRows.{movedRows, rows-flat, rows-whole, rows-right, rows-left}
+use Rattle.laws.specs.Sizes.{area, row-inside}
+
+pub record Running (p : List ℕ → ℕ → ℕ) (rt re st se : List ℕ) (i j step len compared disagreeing at from k : ℕ) : Type 0 where
+  pub within : k ≤ len
+  pub at-is : at ≡ i + k * step
+  pub from-is : from ≡ j + k * step
+  pub counted : Counted (runSum p rt re st se i j step k) (k * 64) compared disagreeing
+
+-- the words that are read
+pub record Here (rt re st se : List ℕ) (more at from : ℕ) : Type 0 where
+  pub in-rt : at < length rt
+  pub in-re : at < length re
+  pub in-st : from + more < length st
+  pub in-se : from + more < length se
+  pub small : length re ≤ 1048576
+  pub small-rt : length rt ≤ 1048576
+  pub small-st : length st ≤ 1048576
+  pub small-se : length se ≤ 1048576
+
+module _ (p : List ℕ → ℕ → ℕ) (rt re st se : List ℕ) (i j step len : ℕ) where
+  pub starts : Running p rt re st se i j step len 0 0 i j 0
+  starts = record { within = omega arith; at-is = omega arith; from-is = omega arith; counted = run-none p rt re st se i j step }
+
+  module _ {c d at from k : ℕ} (q : Running p rt re st se i j step len c d at from k) where
+    pub here : (more : ℕ) → Alike rt re st se → Reaches (length re) more i j step len → k < len → Here rt re st se more at from
+    here more a inside l =
+        let o = inside .each k l in
+        record {
+          in-rt = omega (arith, a, q .at-is);
+          in-re = omega (arith, q .at-is);
+          in-st = omega (arith, a, q .from-is);
+          in-se = omega (arith, a, q .from-is);
+          small = a .small;
+          small-rt = omega (arith, a);
+          small-st = omega (arith, a);
+          small-se = omega (arith, a);
+        }
+
+    pub goes-on : k < len → (s x : ℕ) → s ≡ p st from → x ≡ p se from → {a b : ℕ}
+        → (a ≡ sum 64 (bitOf (bitAnd (getD re at 0) x))) × (a ≤ 64)
+        → (b ≡ sum 64 (bitOf (bitAnd (bitXor (getD rt at 0) s) (bitAnd (getD re at 0) x)))) × (b ≤ 64)
+        → Running p rt re st se i j step len (c + a) (d + b) (at + step) (from + step) (k + 1)
+    goes-on l s x es ex {a} {b} ea eb =
+        let e : (k + 1) * step ≡ k * step + 1 * step = add-mul k 1 step in
+        record {
+          within = omega arith;
+          at-is = omega (arith, e, q .at-is);
+          from-is = omega (arith, e, q .from-is);
+          counted = run-more p rt re st se i j step k c d (q .counted) at from (q .at-is) (q .from-is) s x es ex a b ea eb;
+        }
+
+    pub ends : len ≤ k → Counted (runSum p rt re st se i j step len) (len * 64) c d
+    ends l =
+        let e : k ≡ len = omega (arith, q .within) in
+        counted-as (q .counted) (omega arith) (λ g _. ap (λ (n : ℕ). runSum p rt re st se i j step n g) e)
+
+-- where so many more words are inside, fewer are
+pub reach-less : {size more less i j step len : ℕ} → Reaches size more i j step len → less ≤ more → Reaches size less i j step len
+reach-less inside l = record { each = λ k h. let o = inside .each k h in (o .0, omega arith) }
+
+-- and by columns where by rows
+pub reach-swap : {size more i j apart step lines len : ℕ} → LinesReach size more i j apart step lines len → LinesReach size more i j step apart len lines
+reach-swap inside = record { line = λ r h. record { each = λ k l. let o = inside .line k l .each r h in (omega arith, omega arith) } }
+
+-- words that follow each other, and a column and a rectangle of rows of n words
+pub run-inside : (size len i j : ℕ) → i + len ≤ size → j + len ≤ size → Reaches size 0 i j 1 len
+run-inside size len i j p q = record { each = λ k h. (omega arith, omega arith) }
+
+pub column-inside : (size n rows i j : ℕ) → i + rows * n < size + n → j + rows * n < size + n → Reaches size 0 i j n rows
+column-inside size n rows i j p q = record { each = λ k h. let o = row-inside n rows k h in (omega arith, omega arith) }
+
+pub rectangle-inside : (size more n rows columns i j : ℕ) → i + columns + rows * n ≤ size + n → j + columns + more + rows * n ≤ size + n → LinesReach size more i j n 1 rows columns
+rectangle-inside size more n rows columns i j p q = record { line = λ r h. record { each = λ k l. let o = row-inside n rows r h in (omega arith, omega arith) } }
+
+-- ---- a grid of runs, at a line
+
+pub record Ruling (p : List ℕ → ℕ → ℕ) (rt re st se : List ℕ) (i j apart step lines len compared disagreeing at from line : ℕ) : Type 0 where
+  pub within : line ≤ lines
+  pub at-is : at ≡ i + line * apart
+  pub from-is : from ≡ j + line * apart
+  pub counted : Counted (linesSum p rt re st se i j apart step line len) (line * 524288) compared disagreeing
+
+module _ (p : List ℕ → ℕ → ℕ) (rt re st se : List ℕ) (i j apart step lines len : ℕ) where
+  pub grid-starts : Ruling p rt re st se i j apart step lines len 0 0 i j 0
+  grid-starts = record { within = omega arith; at-is = omega arith; from-is = omega arith; counted = lines-none p rt re st se i j apart step len }
+
+  module _ {c d at from line : ℕ} (q : Ruling p rt re st se i j apart step lines len c d at from line) where
+    pub grid-run : {size more : ℕ} → LinesReach size more i j apart step lines len → line < lines → Reaches size more at from step len
+    grid-run {size} {more} inside l = rw (q .at-is, q .from-is) (inside .line line l)
+
+    -- where the line starts
+    pub grid-near : line < lines → lines ≤ 8192 → apart ≤ 8192 → (at ≤ i + 67108864) × (from ≤ j + 67108864)
+    grid-near l a b = (omega (arith, q .at-is, area line apart (omega arith) b), omega (arith, q .from-is, area line apart (omega arith) b))
+
+    pub grid-goes-on : line < lines → len ≤ 8192 → {a b : ℕ} → Counted (runSum p rt re st se at from step len) (len * 64) a b
+        → Ruling p rt re st se i j apart step lines len (c + a) (d + b) (at + apart) (from + apart) (line + 1)
+    grid-goes-on l n {a} {b} o =
+        let e : (line + 1) * apart ≡ line * apart + 1 * apart = add-mul line 1 apart in
+        record {
+          within = omega arith;
+          at-is = omega (arith, e, q .at-is);
+          from-is = omega (arith, e, q .from-is);
+          counted = lines-more p rt re st se i j apart step len line c d n (q .counted) at from (q .at-is) (q .from-is) a b o;
+        }
+
+    pub grid-ends : lines ≤ line → Counted (linesSum p rt re st se i j apart step lines len) (lines * 524288) c d
+    grid-ends l =
+        let e : line ≡ lines = omega (arith, q .within) in
+        counted-as (q .counted) (omega arith) (λ g _. ap (λ (n : ℕ). linesSum p rt re st se i j apart step n len g) e)
+
+-- counted by columns where by rows
+pub by-columns : (p : List ℕ → ℕ → ℕ) (rt re st se : List ℕ) (i j n rows columns : ℕ) {c d : ℕ} → columns ≤ 8192
+    → Counted (linesSum p rt re st se i j 1 n columns rows) (columns * 524288) c d → Counted (linesSum p rt re st se i j n 1 rows columns) 4294967296 c d
+by-columns p rt re st se i j n rows columns l q = counted-as q (omega arith) (λ g _. lines-swap p rt re st se i j 1 n rows columns g)
+
+-- ---- moved rows by a rectangle, and a column at its edge
+
+module _ (rt re st se : List ℕ) (n rows i j m q : ℕ) where
+  pub moved-flat : m + q ≡ 0 → n ≤ 128 → rows ≤ 8192 → {c d : ℕ} → Counted (runSum (spanned 0) rt re st se i j 1 (rows * n)) (rows * n * 64) c d
+      → Counted (movedRows rt re st se n rows i j m q 0) 8589934592 c d
+  moved-flat o l k a = counted-as a (omega (arith, area rows n k (omega arith))) (λ g is. sym (rows-flat rt re st se n rows i j m q 0 g is refl o))
+
+  pub moved-whole : min m q ≡ 0 → m ≤ n → q < n → {c d : ℕ} → Counted (linesSum (spanned 0) rt re st se (i + m) (j + q) n 1 rows (n - m - q)) 4294967296 c d
+      → Counted (movedRows rt re st se n rows i j m q 0) 8589934592 c d
+  moved-whole o l k a = counted-as a (omega arith) (λ g is. sym (rows-whole rt re st se n rows i j m q 0 g is refl o (omega arith)))
+
+  module _ (s : ℕ) (few : rows ≤ 8192) {c d a b x y : ℕ} (e : (x ≡ c + a) × (y ≡ d + b)) where
+    pub moved-right : 0 < m → min m q ≡ 0 → m ≤ n → 0 < s → Counted (linesSum (spanned s) rt re st se (i + m) (j + q) n 1 rows (n - m)) 4294967296 c d
+        → Counted (runSum (edged 0 (64 - s)) rt re st se (i + (m - 1)) j n rows) (rows * 64) a b → Counted (movedRows rt re st se n rows i j m q s) 8589934592 x y
+    moved-right z o l k f g = counted-sum f g e (omega arith) (λ h is. rows-right rt re st se n rows i j m q s h is (m - 1) (omega arith) (omega arith) l k)
+
+    pub moved-left : m ≤ 0 → q < n → ((v : ℕ) → getD st v 0 < 2 ^ 64) → ((v : ℕ) → getD se v 0 < 2 ^ 64)
+        → Counted (linesSum (spanned s) rt re st se (i + m) (j + q) n 1 rows (n - 1 - q)) 4294967296 c d
+        → Counted (runSum (edged s 0) rt re st se (i + (n - 1 - q)) (j + (n - 1)) n rows) (rows * 64) a b → Counted (movedRows rt re st se n rows i j m q s) 8589934592 x y
+    moved-left z l ft fe f g = counted-sum f g e (omega arith) (λ h is. rows-left rt re st se n rows i j m q s h is (n - 1) (n - 1 - q) (omega arith) (omega arith) (omega arith) ft fe)
+
+-- ---- a shift along a row, in words to the right or to the left, and in columns to the left
+
+pub record Split (n right left m q s : ℕ) : Type 0 where
+  pub alone-is : min m q ≡ 0
+  pub right-in : m ≤ n
+  pub left-in : q < n
+  pub few : s < 64
+  pub lag : right + (q * 64 + s) ≡ left + m * 64
+
+pub split : (w n right left : ℕ) → n ≡ wordsPerRow w → min right left ≡ 0 → right + left < w
+    → let m = (right + 63) / 64 in
+    let rest = m * 64 - right + left in
+    Split n right left m (rest / 64) (rest % 64)
+unfolding wordsPerRow
+split w n right left e o l = record { alone-is = omega arith; right-in = omega arith; left-in = omega arith; few = omega arith; lag = omega arith }
+
+-- so many rows from row a on lie inside
+pub rows-fit : (n h a rows size : ℕ) → size ≡ h * n → a + rows ≤ h → a * n + rows * n ≤ size
+rows-fit n h a rows size e l = omega (arith, add-mul a rows n, mul-le-mul-right n l)
+
+-- four bitmaps of one size
+pub alike : {rt re st se : List ℕ} {w h : ℕ} → (IsBitmap rt w h × IsBitmap re w h × IsBitmap st w h × IsBitmap se w h) → w ≤ 8192 → h ≤ 8192 → Alike rt re st se
+alike {rt} {re} {st} {se} {w} {h} m p q = record {
+  rt-long = m .0 .long ∙ sym (m .1 .long);
+  st-long = m .2 .long ∙ sym (m .1 .long);
+  se-long = m .3 .long ∙ sym (m .1 .long);
+  small = omega (arith, m .1 .long, bitmap-most w h p q);
+}

@@ -1,0 +1,123 @@
+-- The words of a level, both bitmaps of the reference and then both of the target: each is found at its place, and the costs
+-- that they give are those of the frames. Assumes nothing.
+use mathlib.Core.Path.{_≡_, refl, sym, ap, ap₂, _∙_, subst, fun-ext}
+use mathlib.Core.List.{List, [], _++_, append-assoc, append-nil}
+use Prim.Native.Nat.{ℕ, _*_, _≤_}
+use native.Mathlib.Omega.{arith}
+use lib.ListN.{length, take, drop, length-append}
+use lib.Seq.{sets, length-sets, take-at, drop-at}
+use Rattle.definitions.specs.Geometry.{Shift}
+use Rattle.definitions.specs.Threshold.{cut}
+use Rattle.definitions.specs.Bitmap.{bitmapWords}
+use Rattle.definitions.specs.Difference.{Bitmaps, Counts, bitmapsOf, bitmapsIn, counts}
+use Rattle.definitions.specs.Align.{Exposure}
+use Rattle.definitions.specs.Refusals.{FreeUpTo}
+use Rattle.laws.specs.Bitmaps.{IsBitmap}
+use Rattle.laws.specs.Packed.{packed-length, packedThreshold, packedExclusion, threshold-bitmap, exclusion-bitmap, counts-packed}
+use Rattle.laws.specs.Runs.{sets-then}
+use Rattle.laws.specs.Writes.{sets-front, drop-past}
+use Rattle.mtb_align.specs.Search.{mapAt, FourMaps, costIn, costBetween, packedPair}
+
+-- ---- a part of a list
+
+part-at : (p q s : List ℕ) {l : List ℕ} (i n : ℕ) → l ≡ p ++ (q ++ s) → length p ≡ i → length q ≡ n → take n (drop i l) ≡ q
+part-at p q s i n e a b = ap (λ (m : List ℕ). take n (drop i m)) e ∙ ap (take n) (drop-at p (q ++ s) i a) ∙ take-at q s n b
+
+-- the words of a frame's pair
+pub pair-length : (w h : ℕ) (s : List ℕ) (c tolerance : ℕ) → length (packedPair w h s c tolerance) ≡ 2 * bitmapWords w h
+unfolding packedPair
+pair-length w h s c tolerance =
+    let a = packed-length w h (bitmapsOf w s c tolerance .threshold) in
+    let b = packed-length w h (bitmapsOf w s c tolerance .exclusion) in
+    length-append (packedThreshold w h s c tolerance) (packedExclusion w h s c tolerance) ∙ omega arith
+
+module _ (w h tolerance : ℕ) (r t : Exposure) where
+  abbrev pairOf : Exposure → List ℕ
+  pairOf e = packedPair w h (e .samples) (cut (e .samples) (e .percentile)) tolerance
+
+  unfoldable pub fourOf : List ℕ
+  fourOf = pairOf r ++ pairOf t
+
+  -- ---- both pairs stored
+
+  pair-words : (e : Exposure) → length (pairOf e) ≡ 2 * bitmapWords w h
+  pair-words e = pair-length w h (e .samples) (cut (e .samples) (e .percentile)) tolerance
+
+  pub four-length : length fourOf ≡ 4 * bitmapWords w h
+  unfolding fourOf
+  four-length = length-append (pairOf r) (pairOf t) ∙ omega (arith, pair-words r, pair-words t)
+
+  pub four-stored : (l : List ℕ) {m new : List ℕ} {c d k : ℕ} → c ≡ cut (r .samples) (r .percentile) → d ≡ cut (t .samples) (t .percentile) → k ≡ 2 * bitmapWords w h
+      → m ≡ sets l 0 (packedPair w h (r .samples) c tolerance) → new ≡ sets m k (packedPair w h (t .samples) d tolerance) → new ≡ sets l 0 fourOf
+  unfolding fourOf
+  four-stored l {m} {new} {c} {d} {k} a b e p q =
+      sets-then l 0 k (pairOf r) (pairOf t) (pair-words r ∙ sym e)
+      (p ∙ ap (λ (i : ℕ). sets l 0 (packedPair w h (r .samples) i tolerance)) a)
+      (q ∙ ap₂ (λ (i j : ℕ). sets m i (packedPair w h (t .samples) j tolerance)) (omega arith) b)
+
+  module _ (l : List ℕ) (room : 4 * bitmapWords w h ≤ length l) {new : List ℕ} (e : new ≡ sets l 0 fourOf) where
+    pub four-front : (k : ℕ) → k ≡ 4 * bitmapWords w h → take k new ≡ fourOf
+    four-front k q =
+        ap (take k) (e ∙ sets-front l fourOf (omega (arith, four-length)))
+        ∙ take-at fourOf (drop (length fourOf) l) k (four-length ∙ sym q)
+
+    pub four-free : FreeUpTo (4 * bitmapWords w h) l new
+    four-free = record {
+      long = ap length e ∙ length-sets l 0 fourOf;
+      past = ap (drop (4 * bitmapWords w h)) e ∙ drop-past l fourOf 0 (4 * bitmapWords w h) (omega (arith, four-length));
+    }
+
+  -- ---- each at its place
+
+  abbrev thresholdOf : Exposure → List ℕ
+  thresholdOf e = packedThreshold w h (e .samples) (cut (e .samples) (e .percentile)) tolerance
+
+  abbrev exclusionOf : Exposure → List ℕ
+  exclusionOf e = packedExclusion w h (e .samples) (cut (e .samples) (e .percentile)) tolerance
+
+  threshold-words : (e : Exposure) → length (thresholdOf e) ≡ bitmapWords w h
+  threshold-words e = packed-length w h (bitmapsOf w (e .samples) (cut (e .samples) (e .percentile)) tolerance .threshold)
+
+  exclusion-words : (e : Exposure) → length (exclusionOf e) ≡ bitmapWords w h
+  exclusion-words e = packed-length w h (bitmapsOf w (e .samples) (cut (e .samples) (e .percentile)) tolerance .exclusion)
+
+  first : mapAt fourOf w h 0 ≡ thresholdOf r
+  unfolding fourOf packedPair
+  first =
+      part-at [] (thresholdOf r) (exclusionOf r ++ pairOf t) (0 * bitmapWords w h) (bitmapWords w h)
+      (append-assoc (thresholdOf r) (exclusionOf r) (pairOf t)) (omega arith) (threshold-words r)
+
+  second : mapAt fourOf w h 1 ≡ exclusionOf r
+  unfolding fourOf packedPair
+  second =
+      part-at (thresholdOf r) (exclusionOf r) (pairOf t) (1 * bitmapWords w h) (bitmapWords w h)
+      (append-assoc (thresholdOf r) (exclusionOf r) (pairOf t)) (omega (arith, threshold-words r)) (exclusion-words r)
+
+  third : mapAt fourOf w h 2 ≡ thresholdOf t
+  unfolding fourOf packedPair
+  third = part-at (pairOf r) (thresholdOf t) (exclusionOf t) (2 * bitmapWords w h) (bitmapWords w h) refl (pair-words r) (threshold-words t)
+
+  fourth : mapAt fourOf w h 3 ≡ exclusionOf t
+  unfolding fourOf packedPair
+  fourth =
+      part-at (pairOf r ++ thresholdOf t) (exclusionOf t) [] (3 * bitmapWords w h) (bitmapWords w h)
+      (sym (append-assoc (pairOf r) (thresholdOf t) (exclusionOf t)) ∙ ap (λ (m : List ℕ). (pairOf r ++ thresholdOf t) ++ m) (sym (append-nil (exclusionOf t))))
+      (length-append (pairOf r) (thresholdOf t) ∙ omega (arith, pair-words r, threshold-words t))
+      (exclusion-words t)
+
+  is-bitmap : {a b : List ℕ} → a ≡ b → IsBitmap b w h → IsBitmap a w h
+  is-bitmap e m = subst (λ (l : List ℕ). IsBitmap l w h) (sym e) m
+
+  pub four-maps : FourMaps fourOf w h
+  four-maps = record {
+    reference-threshold = is-bitmap first (threshold-bitmap w h (r .samples) (cut (r .samples) (r .percentile)) tolerance);
+    reference-exclusion = is-bitmap second (exclusion-bitmap w h (r .samples) (cut (r .samples) (r .percentile)) tolerance);
+    target-threshold = is-bitmap third (threshold-bitmap w h (t .samples) (cut (t .samples) (t .percentile)) tolerance);
+    target-exclusion = is-bitmap fourth (exclusion-bitmap w h (t .samples) (cut (t .samples) (t .percentile)) tolerance);
+  }
+
+  pub four-costs : costIn fourOf w h ≡ costBetween w h tolerance r t
+  unfolding costIn costBetween
+  four-costs = fun-ext (λ (s : Shift).
+      ap₂ (λ (a b : Bitmaps). counts w h a b s .disagreeing) (ap₂ (bitmapsIn w) first second) (ap₂ (bitmapsIn w) third fourth)
+      ∙ ap (λ (n : Counts). n .disagreeing) (counts-packed w h (r .samples) (cut (r .samples) (r .percentile)) (t .samples) (cut (t .samples) (t .percentile)) tolerance s))

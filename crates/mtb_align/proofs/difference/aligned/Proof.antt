@@ -1,0 +1,62 @@
+-- `mtb_align::difference::aligned` meets its contract. Assumes nothing.
+use native.Mathlib.Omega.{arith}
+use Rattle.mtb_align.proofs.Counting.{run-inside, rectangle-inside, moved-flat, moved-whole}
+use Rattle.mtb_align.proofs.difference.aligned.Statement.{statement}
+use Rattle.mtb_align.proofs.difference.aligned.Tie as tie
+
+add-if1 : tie.Need-add-if1
+add-if1 c = omega arith
+
+mul-whole-run : tie.Need-mul-whole-run
+mul-whole-run c = let p = c .before .before .before .before .before .pre in omega (arith, p .3, p .0 .small)
+
+whole-run-requires : tie.Need-whole-run-requires
+whole-run-requires c κs =
+    let p = c .before .before .before .before .before .pre in
+    (p .0, run-inside _ _ _ _ (p .3) (p .4), omega arith, omega (arith, p .3, p .0 .small))
+
+returns : tie.Need-returns
+returns c =
+    let s = c .before .before .before .before .before .before in
+    let x = s .args in
+    let p = s .pre in
+    moved-flat (x .rt .now) (x .re .now) (x .st .now) (x .se .now) (x .n) (x .rows) (x .i) (x .j) (x .m) (x .q) (c .before .if1 .taken) (p .1) (p .2) (c .whole-run .ensures)
+
+add-rectangle : tie.Need-add-rectangle
+add-rectangle c = omega arith
+
+add-rectangle-2 : tie.Need-add-rectangle-2
+add-rectangle-2 c = omega arith
+
+sub-rectangle : tie.Need-sub-rectangle
+sub-rectangle c = omega arith
+
+sub-rectangle-2 : tie.Need-sub-rectangle-2
+sub-rectangle-2 c = omega arith
+
+rectangle-requires : tie.Need-rectangle-requires
+rectangle-requires c κs =
+    let p = c .before .before .before .before .before .pre in
+    (p .0, rectangle-inside _ _ _ _ _ _ _ (omega arith) (omega arith), p .1, p .2, omega arith, omega arith, omega (arith, p .0 .small), omega (arith, p .0 .small))
+
+returns-2 : tie.Need-returns-2
+returns-2 c =
+    let s = c .before .before .before .before .before .before in
+    let x = s .args in
+    let p = s .pre in
+    moved-whole (x .rt .now) (x .re .now) (x .st .now) (x .se .now) (x .n) (x .rows) (x .i) (x .j) (x .m) (x .q) (p .5) (p .6) (p .7) (c .rectangle .ensures)
+
+pub aligned-spec : {M : Type 1} → statement M
+aligned-spec =
+    tie.close
+    (tie.spec
+    add-if1
+    mul-whole-run
+    whole-run-requires
+    returns
+    add-rectangle
+    add-rectangle-2
+    sub-rectangle
+    sub-rectangle-2
+    rectangle-requires
+    returns-2)

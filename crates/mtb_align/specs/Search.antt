@@ -1,0 +1,45 @@
+-- What the inner functions of the search compute: four bitmaps one after another in a list of words, and the costs at a level.
+use Prim.Native.Nat.{ℕ, _+_, _*_}
+use mathlib.Core.List.{List, _++_}
+use lib.ListN.{take, drop}
+use Rattle.definitions.specs.Geometry.{Shift}
+use Rattle.definitions.specs.Threshold.{cut}
+use Rattle.definitions.specs.Bitmap.{bitmapWords, packed}
+use Rattle.definitions.specs.Difference.{Bitmaps, bitmapsOf, bitmapsIn, counts}
+use Rattle.definitions.specs.Align.{Options, Exposure}
+use Rattle.laws.specs.Bitmaps.{IsBitmap}
+use Rattle.mtb_align.specs.declared.align.Options as code
+use Rattle.mtb_align.specs.Answers.{modeOf}
+
+-- Bitmap i of a list of bitmaps of w by h.
+abbrev pub mapAt : List ℕ → ℕ → ℕ → ℕ → List ℕ
+mapAt words w h i = take (bitmapWords w h) (drop (i * bitmapWords w h) words)
+
+-- All four are bitmaps: of the reference the threshold and the exclusion bitmap, then of the target.
+pub record FourMaps (words : List ℕ) (w h : ℕ) : Type 0 where
+  pub reference-threshold : IsBitmap (mapAt words w h 0) w h
+  pub reference-exclusion : IsBitmap (mapAt words w h 1) w h
+  pub target-threshold : IsBitmap (mapAt words w h 2) w h
+  pub target-exclusion : IsBitmap (mapAt words w h 3) w h
+
+-- The disagreement of the two pairs at a shift.
+unfoldable pub costIn : List ℕ → ℕ → ℕ → Shift → ℕ
+costIn words w h s =
+    counts w h (bitmapsIn w (mapAt words w h 0) (mapAt words w h 1)) (bitmapsIn w (mapAt words w h 2) (mapAt words w h 3)) s .disagreeing
+
+-- The disagreement of two frames of w by h at a shift, each cut at its percentile.
+unfoldable pub costBetween : ℕ → ℕ → ℕ → Exposure → Exposure → Shift → ℕ
+costBetween w h tolerance r t s =
+    counts w h (bitmapsOf w (r .samples) (cut (r .samples) (r .percentile)) tolerance) (bitmapsOf w (t .samples) (cut (t .samples) (t .percentile)) tolerance) s .disagreeing
+
+-- A frame with its percentile.
+abbrev pub exposureOf : List ℕ → ℕ → Exposure
+exposureOf samples percentile = record { samples = samples; percentile = percentile }
+
+-- What all frames of a search share.
+abbrev pub optionsIn : code.Options → Options
+optionsIn o = record { bits = o .bits; tolerance = o .tolerance; shrink = modeOf (o .shrink) }
+
+-- Both bitmaps of a frame, one after the other.
+unfoldable pub packedPair : ℕ → ℕ → List ℕ → ℕ → ℕ → List ℕ
+packedPair w h s c tolerance = packed w h (bitmapsOf w s c tolerance .threshold) ++ packed w h (bitmapsOf w s c tolerance .exclusion)

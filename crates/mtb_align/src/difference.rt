@@ -1,0 +1,472 @@
+// Both counts of two packed pairs at a shift, a word at a time. rt and re are the reference's threshold and exclusion bitmap, st
+// and se the target's, which is the source of what is shown on the reference.
+use super::bitmap::ones_of;
+use super::bitmap::padding;
+use super::bitmap::words_per_row;
+use super::error::Error;
+use super::error::Size;
+use super::error::side_over;
+use super::geometry::Shift;
+use super::geometry::above;
+use super::geometry::below;
+ghost use mathlib.Core.Path.{_≡_};
+ghost use Prim.Native.Nat.{_+_, _*_, _≤_, _<_, min};
+ghost use lib.ListN.{length};
+ghost use Rattle.definitions.specs.Bitmap.{bitmapWords};
+ghost use Rattle.definitions.specs.Difference.{bitmapsIn, counts};
+ghost use Rattle.definitions.specs.Refusals.{answer, countingChecks};
+ghost use Rattle.laws.specs.Bitmaps.{IsBitmap};
+ghost use Rattle.laws.specs.ChecksDifference.{Long, paddingOf};
+ghost use Rattle.laws.specs.Joints.{Alike, Reaches, LinesReach, Counted, spanned, edged, runSum, linesSum};
+ghost use Rattle.laws.specs.Moved.{funnel, part};
+ghost use Rattle.laws.specs.MovedRows.{movedRows};
+ghost use Rattle.mtb_align.specs.Answers.{shiftIn, countsIn, countsAnswer};
+
+// How many pixels disagree, and how many were compared.
+pub struct Counts {
+    pub disagreeing: u64,
+    pub compared: u64,
+}
+
+pub enum CountsAnswer {
+    Counted(Counts),
+    Refused(Error),
+}
+
+// The word that starts `bit` columns up in `lo`, with `hi` the word after it.
+fn joined(lo: u64, hi: u64, bit: usize) -> u64
+    requires { ⌜ (0 < bit) × (bit < 64) ⌝ }
+    ensures { λ r. ⌜ r ≡ funnel lo hi bit ⌝ }
+{
+    (lo >> bit) | (hi << (64 - bit))
+}
+
+// What is left of a word that is shifted down and then up.
+fn part_of(word: u64, down: usize, up: usize) -> u64
+    requires { ⌜ (down < 64) × (up < 64) ⌝ }
+    ensures { λ r. ⌜ r ≡ part word down up ⌝ }
+{
+    (word >> down) << up
+}
+
+// Both counts of `len` words, `step` apart, from word i of the reference and word j of the target on.
+fn whole_run(
+    rt: &[u64],
+    re: &[u64],
+    st: &[u64],
+    se: &[u64],
+    i: usize,
+    j: usize,
+    step: usize,
+    len: usize,
+) -> Counts
+    requires { ⌜ Alike (now rt) (now re) (now st) (now se) × Reaches (length (now re)) 0 i j step len × (step ≤ 8192) × (len ≤ 1048576) ⌝ }
+    ensures { λ r. ⌜
+        Counted (runSum (spanned 0) (now (rt .entry)) (now (re .entry)) (now (st .entry)) (now (se .entry)) i j step len) (len * 64) (r .compared) (r .disagreeing)
+        ⌝ }
+{
+    let mut compared: u64 = 0;
+    let mut disagreeing: u64 = 0;
+    let mut at = i;
+    let mut from = j;
+    let mut k: usize = 0;
+    while k < len {
+        let both = re[at] & se[from];
+        let odd = (rt[at] ^ st[from]) & both;
+        compared += ones_of(both);
+        disagreeing += ones_of(odd);
+        at += step;
+        from += step;
+        k += 1;
+    }
+    Counts {
+        disagreeing,
+        compared,
+    }
+}
+
+// The same where each word shows two neighbours of the target.
+fn spanned_run(
+    rt: &[u64],
+    re: &[u64],
+    st: &[u64],
+    se: &[u64],
+    i: usize,
+    j: usize,
+    step: usize,
+    len: usize,
+    bit: usize,
+) -> Counts
+    requires { ⌜
+        Alike (now rt) (now re) (now st) (now se) × Reaches (length (now re)) 1 i j step len × (step ≤ 8192) × (len ≤ 8192) × (0 < bit) × (bit < 64)
+        ⌝ }
+    ensures { λ r. ⌜
+        Counted (runSum (spanned bit) (now (rt .entry)) (now (re .entry)) (now (st .entry)) (now (se .entry)) i j step len) (len * 64) (r .compared) (r .disagreeing)
+        ⌝ }
+{
+    let mut compared: u64 = 0;
+    let mut disagreeing: u64 = 0;
+    let mut at = i;
+    let mut from = j;
+    let mut k: usize = 0;
+    while k < len {
+        let next = from + 1;
+        let both = re[at] & joined(se[from], se[next], bit);
+        let odd = (rt[at] ^ joined(st[from], st[next], bit)) & both;
+        compared += ones_of(both);
+        disagreeing += ones_of(odd);
+        at += step;
+        from += step;
+        k += 1;
+    }
+    Counts {
+        disagreeing,
+        compared,
+    }
+}
+
+// The same where each word shows a part of one word of the target.
+fn edge_run(
+    rt: &[u64],
+    re: &[u64],
+    st: &[u64],
+    se: &[u64],
+    i: usize,
+    j: usize,
+    step: usize,
+    len: usize,
+    down: usize,
+    up: usize,
+) -> Counts
+    requires { ⌜
+        Alike (now rt) (now re) (now st) (now se) × Reaches (length (now re)) 0 i j step len × (step ≤ 8192) × (len ≤ 8192) × (down < 64) × (up < 64)
+        ⌝ }
+    ensures { λ r. ⌜
+        Counted (runSum (edged down up) (now (rt .entry)) (now (re .entry)) (now (st .entry)) (now (se .entry)) i j step len) (len * 64) (r .compared) (r .disagreeing)
+        ⌝ }
+{
+    let mut compared: u64 = 0;
+    let mut disagreeing: u64 = 0;
+    let mut at = i;
+    let mut from = j;
+    let mut k: usize = 0;
+    while k < len {
+        let both = re[at] & part_of(se[from], down, up);
+        let odd = (rt[at] ^ part_of(st[from], down, up)) & both;
+        compared += ones_of(both);
+        disagreeing += ones_of(odd);
+        at += step;
+        from += step;
+        k += 1;
+    }
+    Counts {
+        disagreeing,
+        compared,
+    }
+}
+
+// Both counts of a run where the target starts `bit` columns up in word j.
+fn run(
+    rt: &[u64],
+    re: &[u64],
+    st: &[u64],
+    se: &[u64],
+    i: usize,
+    j: usize,
+    step: usize,
+    len: usize,
+    bit: usize,
+) -> Counts
+    requires { ⌜
+        Alike (now rt) (now re) (now st) (now se) × Reaches (length (now re)) (min bit 1) i j step len × (step ≤ 8192) × (len ≤ 8192) × (bit < 64)
+        ⌝ }
+    ensures { λ r. ⌜
+        Counted (runSum (spanned bit) (now (rt .entry)) (now (re .entry)) (now (st .entry)) (now (se .entry)) i j step len) (len * 64) (r .compared) (r .disagreeing)
+        ⌝ }
+{
+    if bit == 0 {
+        return whole_run(rt, re, st, se, i, j, step, len);
+    }
+    spanned_run(rt, re, st, se, i, j, step, len, bit)
+}
+
+// Both counts of so many runs, each `apart` words after the one before it.
+fn grid(
+    rt: &[u64],
+    re: &[u64],
+    st: &[u64],
+    se: &[u64],
+    i: usize,
+    j: usize,
+    apart: usize,
+    step: usize,
+    lines: usize,
+    len: usize,
+    bit: usize,
+) -> Counts
+    requires { ⌜
+        Alike (now rt) (now re) (now st) (now se) × LinesReach (length (now re)) (min bit 1) i j apart step lines len
+        × (apart ≤ 8192) × (step ≤ 8192) × (lines ≤ 8192) × (len ≤ 8192) × (bit < 64) × (i ≤ 1048704) × (j ≤ 1048704)
+        ⌝ }
+    ensures { λ r. ⌜
+        Counted (linesSum (spanned bit) (now (rt .entry)) (now (re .entry)) (now (st .entry)) (now (se .entry)) i j apart step lines len) (lines * 524288) (r .compared) (r .disagreeing)
+        ⌝ }
+{
+    let mut compared: u64 = 0;
+    let mut disagreeing: u64 = 0;
+    let mut at = i;
+    let mut from = j;
+    let mut line: usize = 0;
+    while line < lines {
+        let c = run(rt, re, st, se, at, from, step, len, bit);
+        compared += c.compared;
+        disagreeing += c.disagreeing;
+        at += apart;
+        from += apart;
+        line += 1;
+    }
+    Counts {
+        disagreeing,
+        compared,
+    }
+}
+
+// Both counts of `rows` rows of `columns` words; n words are a row of the frame. A narrow one is counted by columns, so that the
+// inner run is long.
+fn rectangle(
+    rt: &[u64],
+    re: &[u64],
+    st: &[u64],
+    se: &[u64],
+    n: usize,
+    i: usize,
+    j: usize,
+    rows: usize,
+    columns: usize,
+    bit: usize,
+) -> Counts
+    requires { ⌜
+        Alike (now rt) (now re) (now st) (now se) × LinesReach (length (now re)) (min bit 1) i j n 1 rows columns
+        × (n ≤ 128) × (rows ≤ 8192) × (columns ≤ n) × (bit < 64) × (i ≤ 1048704) × (j ≤ 1048704)
+        ⌝ }
+    ensures { λ r. ⌜
+        Counted (linesSum (spanned bit) (now (rt .entry)) (now (re .entry)) (now (st .entry)) (now (se .entry)) i j n 1 rows columns) 4294967296 (r .compared) (r .disagreeing)
+        ⌝ }
+{
+    if columns < 4 {
+        return grid(rt, re, st, se, i, j, 1, n, columns, rows, bit);
+    }
+    grid(rt, re, st, se, i, j, n, 1, rows, columns, bit)
+}
+
+// Two counts together.
+fn together(a: Counts, b: Counts) -> Counts
+    requires { ⌜ (a .compared ≤ 4294967296) × (a .disagreeing ≤ 4294967296) × (b .compared ≤ 4294967296) × (b .disagreeing ≤ 4294967296) ⌝ }
+    ensures { λ r. ⌜ (r .compared ≡ a .compared + b .compared) × (r .disagreeing ≡ a .disagreeing + b .disagreeing) ⌝ }
+{
+    Counts {
+        disagreeing: a.disagreeing + b.disagreeing,
+        compared: a.compared + b.compared,
+    }
+}
+
+// Both counts of `rows` rows of n words, from word i of the reference and word j of the target on, each target row moved by m words
+// to the right or q words to the left. Rows that do not move are one run.
+fn aligned(
+    rt: &[u64],
+    re: &[u64],
+    st: &[u64],
+    se: &[u64],
+    n: usize,
+    rows: usize,
+    i: usize,
+    j: usize,
+    m: usize,
+    q: usize,
+) -> Counts
+    requires { ⌜
+        Alike (now rt) (now re) (now st) (now se) × (n ≤ 128) × (rows ≤ 8192) × (i + rows * n ≤ length (now re)) × (j + rows * n ≤ length (now re))
+        × (min m q ≡ 0) × (m ≤ n) × (q < n)
+        ⌝ }
+    ensures { λ r. ⌜
+        Counted (movedRows (now (rt .entry)) (now (re .entry)) (now (st .entry)) (now (se .entry)) n rows i j m q 0) 8589934592 (r .compared) (r .disagreeing)
+        ⌝ }
+{
+    if m + q == 0 {
+        return whole_run(rt, re, st, se, i, j, 1, rows * n);
+    }
+    rectangle(rt, re, st, se, n, i + m, j + q, rows, n - m - q, 0)
+}
+
+// The same where each target row is then moved by `bit` columns to the left.
+fn moved(
+    rt: &[u64],
+    re: &[u64],
+    st: &[u64],
+    se: &[u64],
+    n: usize,
+    rows: usize,
+    i: usize,
+    j: usize,
+    m: usize,
+    q: usize,
+    bit: usize,
+) -> Counts
+    requires { ⌜
+        Alike (now rt) (now re) (now st) (now se) × (n ≤ 128) × (rows ≤ 8192) × (i + rows * n ≤ length (now re)) × (j + rows * n ≤ length (now re))
+        × (min m q ≡ 0) × (m ≤ n) × (q < n) × (bit < 64)
+        ⌝ }
+    ensures { λ r. ⌜
+        Counted (movedRows (now (rt .entry)) (now (re .entry)) (now (st .entry)) (now (se .entry)) n rows i j m q bit) 8589934592 (r .compared) (r .disagreeing)
+        ⌝ }
+{
+    if bit == 0 {
+        return aligned(rt, re, st, se, n, rows, i, j, m, q);
+    }
+    if m > 0 {
+        let inner = rectangle(rt, re, st, se, n, i + m, j + q, rows, n - m, bit);
+        let edge = edge_run(rt, re, st, se, i + (m - 1), j, n, rows, 0, 64 - bit);
+        return together(inner, edge);
+    }
+    let last = n - 1;
+    let columns = last - q;
+    let inner = rectangle(rt, re, st, se, n, i + m, j + q, rows, columns, bit);
+    let edge = edge_run(rt, re, st, se, i + columns, j + last, n, rows, bit, 0);
+    together(inner, edge)
+}
+
+// Both counts of bitmaps whose lengths and padding are in order.
+pub(crate) fn count(
+    rt: &[u64],
+    re: &[u64],
+    st: &[u64],
+    se: &[u64],
+    width: usize,
+    height: usize,
+    shift: Shift,
+) -> Counts
+    requires { ⌜ (width ≤ 8192) × (height ≤ 8192) ⌝ }
+    requires { ⌜
+        IsBitmap (now rt) width height
+        × IsBitmap (now re) width height
+        × IsBitmap (now st) width height
+        × IsBitmap (now se) width height
+        ⌝ }
+    ensures { λ r. ⌜
+        countsIn r ≡ counts width height (bitmapsIn width (now (rt .entry)) (now (re .entry))) (bitmapsIn width (now (st .entry)) (now (se .entry))) (shiftIn shift)
+        ⌝ }
+{
+    let up = above(shift.y);
+    let down = below(shift.y);
+    if height <= up + down {
+        return Counts {
+            disagreeing: 0,
+            compared: 0,
+        };
+    }
+    let right = above(shift.x);
+    let left = below(shift.x);
+    if width <= right + left {
+        return Counts {
+            disagreeing: 0,
+            compared: 0,
+        };
+    }
+    let n = words_per_row(width);
+    let m = (right + 63) / 64;
+    let rest = m * 64 - right + left;
+    moved(
+        rt,
+        re,
+        st,
+        se,
+        n,
+        height - up - down,
+        up * n,
+        down * n,
+        m,
+        rest / 64,
+        rest % 64,
+    )
+}
+
+// How many padding bits are set in all four.
+fn paddings(rt: &[u64], re: &[u64], st: &[u64], se: &[u64], width: usize, height: usize) -> u64
+    requires { ⌜ (width ≤ 8192) × (height ≤ 8192) × Long (now rt) (now re) (now st) (now se) (bitmapWords width height) ⌝ }
+    ensures { λ r. ⌜ r ≡ paddingOf (now (rt .entry)) (now (re .entry)) (now (st .entry)) (now (se .entry)) width height ⌝ }
+{
+    padding(rt, width, height)
+        + padding(re, width, height)
+        + padding(st, width, height)
+        + padding(se, width, height)
+}
+
+// The reference's pair is width by height, the target's target_width by target_height. Refused: 1 for either size, 4, 2, 8.
+pub fn disagreement(
+    reference_threshold: &[u64],
+    reference_exclusion: &[u64],
+    width: usize,
+    height: usize,
+    target_threshold: &[u64],
+    target_exclusion: &[u64],
+    target_width: usize,
+    target_height: usize,
+    shift: Shift,
+) -> CountsAnswer
+    ensures { λ r. ⌜
+        countsAnswer r ≡ answer (countingChecks width height «target_width» «target_height» (now («reference_threshold» .entry)) (now («reference_exclusion» .entry)) (now («target_threshold» .entry)) (now («target_exclusion» .entry)))
+        (counts width height (bitmapsIn width (now («reference_threshold» .entry)) (now («reference_exclusion» .entry))) (bitmapsIn width (now («target_threshold» .entry)) (now («target_exclusion» .entry))) (shiftIn shift))
+        ⌝ }
+{
+    if side_over(width, height) {
+        return CountsAnswer::Refused(Error::Side);
+    }
+    if side_over(target_width, target_height) {
+        return CountsAnswer::Refused(Error::Side);
+    }
+    let size = Size { width, height };
+    let target_size = Size {
+        width: target_width,
+        height: target_height,
+    };
+    if width != target_width {
+        return CountsAnswer::Refused(Error::SizeMismatch(size, target_size));
+    }
+    if height != target_height {
+        return CountsAnswer::Refused(Error::SizeMismatch(size, target_size));
+    }
+    let words = height * words_per_row(width);
+    if reference_threshold.len() != words {
+        return CountsAnswer::Refused(Error::Length);
+    }
+    if reference_exclusion.len() != words {
+        return CountsAnswer::Refused(Error::Length);
+    }
+    if target_threshold.len() != words {
+        return CountsAnswer::Refused(Error::Length);
+    }
+    if target_exclusion.len() != words {
+        return CountsAnswer::Refused(Error::Length);
+    }
+    if paddings(
+        reference_threshold,
+        reference_exclusion,
+        target_threshold,
+        target_exclusion,
+        width,
+        height,
+    )
+        > 0
+    {
+        return CountsAnswer::Refused(Error::Padding);
+    }
+    CountsAnswer::Counted(count(
+        reference_threshold,
+        reference_exclusion,
+        target_threshold,
+        target_exclusion,
+        width,
+        height,
+        shift,
+    ))
+}
