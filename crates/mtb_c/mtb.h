@@ -61,6 +61,20 @@ uint32_t mtb_count_ones(const uint64_t *words, size_t words_length, size_t width
 size_t mtb_row(const uint64_t *words, size_t words_length, size_t width, size_t height,
                size_t y, uint64_t *out, size_t out_length);
 
+/* Doubles a shift. Refused: 12. Writes new_x, new_y. */
+uint32_t mtb_doubled(int32_t x, int32_t y, int32_t *new_x, int32_t *new_y);
+
+/* Adds (by_x, by_y) to a shift. Refused: 12. Writes new_x, new_y. */
+uint32_t mtb_offset(int32_t x, int32_t y, int32_t by_x, int32_t by_y, int32_t *new_x, int32_t *new_y);
+
+/* Moves a frame right by x and down by y, with 0 where nothing moves in. Refused: 1; 2 for samples, moved. Writes moved. */
+uint32_t mtb_shifted(const uint8_t *samples, size_t samples_length, size_t width, size_t height,
+                     int32_t x, int32_t y, uint8_t *moved, size_t moved_length);
+
+/* The crop that every frame covers once moved by its shift (x, then y). Refused: 1; 2 for an odd list. Writes left, top, wide, high. */
+uint32_t mtb_common_crop(const int32_t *shifts, size_t shifts_length, size_t width, size_t height,
+                         size_t *left, size_t *top, size_t *wide, size_t *high);
+
 #ifdef __cplusplus
 }
 #endif

@@ -1,8 +1,8 @@
 //! The calls on one image, one bitmap, two bitmaps, or shifts alone.
 
 use compare::inputs::{
-    ANY, Random, any_shift, coordinate, percentile_of, perhaps_wrong, shrink, size, tolerance,
-    two_pairs, words,
+    ANY, Random, any_shift, doubling, percentile_of, perhaps_wrong, shift_list, shrink, size,
+    tolerance, two_pairs, words,
 };
 use compare::trials::Outcome;
 use compare::{original, recount, scenes};
@@ -143,14 +143,6 @@ pub fn row(random: &mut Random, _: usize) -> Outcome {
     )
 }
 
-/// A coordinate, often where doubling it just fits.
-fn doubling(random: &mut Random) -> i32 {
-    match random.one_in(2) {
-        true => coordinate(random, 100),
-        false => random.pick(&[-1, 1]) * (1 << 30) + random.between(-2, 2) as i32,
-    }
-}
-
 pub fn doubled(random: &mut Random, _: usize) -> Outcome {
     let shift = Shift::new(doubling(random), doubling(random));
     same(
@@ -172,16 +164,7 @@ pub fn offset(random: &mut Random, _: usize) -> Outcome {
 
 pub fn common_crop(random: &mut Random, _: usize) -> Outcome {
     let (width, height) = size(random, 24);
-    let far = random.one_in(3);
-    let mut shifts = Vec::new();
-    for _ in 0..random.below(17) {
-        for side in [width, height] {
-            shifts.push(match far {
-                true => coordinate(random, side),
-                false => random.between(-9, 9) as i32,
-            });
-        }
-    }
+    let shifts = shift_list(random, (width, height));
     let input = format!("{width} by {height}, {shifts:?}");
     let crop = geometry::common_crop(&shifts, width, height);
     same(

@@ -107,6 +107,29 @@ pub fn any_shift(random: &mut Random, (width, height): (usize, usize)) -> Shift 
     Shift::new(x, y)
 }
 
+/// A coordinate, often where doubling it just fits.
+pub fn doubling(random: &mut Random) -> i32 {
+    match random.one_in(2) {
+        true => coordinate(random, 100),
+        false => random.pick(&[-1, 1]) * (1 << 30) + random.between(-2, 2) as i32,
+    }
+}
+
+/// The shifts of a stack, near or far: x, then y for each frame.
+pub fn shift_list(random: &mut Random, (width, height): (usize, usize)) -> Vec<i32> {
+    let far = random.one_in(3);
+    let mut shifts = Vec::new();
+    for _ in 0..random.below(17) {
+        for side in [width, height] {
+            shifts.push(match far {
+                true => coordinate(random, side),
+                false => random.between(-9, 9) as i32,
+            });
+        }
+    }
+    shifts
+}
+
 /// How many of 16 bits a bitmap has set: any, or mostly set as exclusion bits are.
 pub const ANY: [usize; 5] = [0, 1, 8, 15, 16];
 pub const MOSTLY_SET: [usize; 5] = [4, 12, 14, 15, 16];

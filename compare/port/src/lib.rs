@@ -11,3 +11,4 @@
 //! functions here are safe.
 
 pub mod frames;
+pub mod moves;

@@ -47,7 +47,7 @@ pub struct Claim {
     pub height: usize,
     /// The size that the lists are made for: as claimed, or none where they could not
     /// be as long.
-    made: (usize, usize),
+    pub made: (usize, usize),
     /// Whether every length is right.
     sound: bool,
 }
@@ -103,7 +103,7 @@ impl Claim {
     }
 
     /// A list of its length or one off.
-    fn list<T: Element>(self, random: &mut Random, mut list: Vec<T>) -> Lent<T> {
+    pub fn list<T: Element>(self, random: &mut Random, mut list: Vec<T>) -> Lent<T> {
         let length = self.perhaps_wrong(random, list.len());
         list.resize_with(length, || T::any(random));
         Lent::holding(random, &list)

@@ -22,7 +22,7 @@ macro_rules! numbers {
     };
 }
 
-numbers!(u8 u16 u64);
+numbers!(u8 u16 u64 usize i32);
 
 impl Element for bool {
     fn any(random: &mut Random) -> Self {

@@ -4,6 +4,7 @@
 mod claims;
 mod frames;
 mod lent;
+mod moves;
 
 use std::fmt::Debug;
 use std::process::ExitCode;
@@ -11,7 +12,7 @@ use std::process::ExitCode;
 use compare::trials::{self, Call, Outcome, call, same};
 use naive::Refusal;
 
-const CALLS: [Call; 9] = [
+const CALLS: [Call; 13] = [
     call("from_rgb", 3000, frames::from_rgb),
     call("shrink2 average", 3000, frames::shrink2_average),
     call("shrink2 subsample", 3000, frames::shrink2_subsample),
@@ -21,6 +22,10 @@ const CALLS: [Call; 9] = [
     call("set", 4000, frames::set),
     call("count_ones", 4000, frames::count_ones),
     call("row", 4000, frames::row),
+    call("doubled", 4000, moves::doubled),
+    call("offset", 4000, moves::offset),
+    call("shifted", 4000, moves::shifted),
+    call("common_crop", 4000, moves::common_crop),
 ];
 
 fn main() -> ExitCode {

@@ -16,12 +16,12 @@ use crate::{Timed, timed};
 const PERCENTILE: u8 = 50;
 const TOLERANCE: u8 = 4;
 
-fn frame(input: &Input) -> Frame<'_> {
+pub fn frame(input: &Input) -> Frame<'_> {
     let (width, height) = input.size;
     Frame::new(&input.samples, width, height)
 }
 
-fn gray(input: &Input) -> Gray {
+pub fn gray(input: &Input) -> Gray {
     let (width, height) = input.size;
     Gray::from_vec(input.samples.clone(), width, height)
 }
@@ -167,6 +167,6 @@ pub fn pixels(input: &Input) -> Vec<Timed> {
 }
 
 /// A refusal would be quick.
-fn accepted(status: u32) {
+pub fn accepted(status: u32) {
     assert_eq!(status, 0, "the port refused");
 }

@@ -3,6 +3,7 @@
 
 mod frames;
 mod inputs;
+mod moves;
 mod race;
 
 use inputs::{Input, Kind, SIZES, Size};
@@ -39,15 +40,16 @@ impl Timed {
 }
 
 /// Calls timed on every input.
-const CALLS: [fn(&Input) -> Vec<Timed>; 4] = [
+const CALLS: [fn(&Input) -> Vec<Timed>; 5] = [
     frames::from_rgb,
     frames::shrink2,
     frames::cut_and_bitmaps,
     frames::count_ones,
+    moves::shifted,
 ];
 
 /// Calls whose time has nothing to do with the input.
-const CALLS_ON_ONE: [fn(&Input) -> Vec<Timed>; 1] = [frames::pixels];
+const CALLS_ON_ONE: [fn(&Input) -> Vec<Timed>; 2] = [frames::pixels, moves::common_crop];
 const ONE: Size = (640, 480);
 
 /// How often all is timed, so that no call meets bad weather alone.

@@ -35,3 +35,5 @@ pub mod Joints
 pub mod MovedRows
 pub mod Overlaps
 pub mod ChecksDifference
+pub mod ChecksStack
+pub mod StackWalks

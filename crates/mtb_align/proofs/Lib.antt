@@ -5,8 +5,10 @@ pub mod Four
 pub mod Halves
 pub mod Lanes
 pub mod Nine
+pub mod Pairs
 pub mod Pixels
 pub mod Rows
 pub mod Stacked
 pub mod Two
+pub mod Walked
 pub mod Within

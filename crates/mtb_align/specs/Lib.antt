@@ -4,4 +4,5 @@ pub mod Levelled
 pub mod Nine
 pub mod Packing
 pub mod Search
+pub mod Stack
 pub mod Tally

@@ -15,21 +15,24 @@ ghost use Rattle.laws.specs.Bitmaps.{IsBitmap};
 ghost use Rattle.laws.specs.Steps.{Within};
 ghost use mathlib.Core.Path.{_≡_};
 ghost use mathlib.Core.Bool.{cond};
-ghost use mathlib.Core.List.{[], _++_};
-ghost use Prim.Native.Nat.{_+_, _-_, _*_, _≤_, min, max};
-ghost use lib.ListN.{length, drop};
+ghost use mathlib.Core.List.{[], _∷_, _++_, map};
+ghost use Prim.Native.Nat.{suc, _+_, _-_, _*_, _≤_, _<_, min, max};
+ghost use lib.ListN.{length, getD, drop};
 ghost use lib.Dec.{ltb};
 ghost use lib.Seq.{sets};
 ghost use Rattle.definitions.specs.Shrink.{sideAt, halvedSamples, pyramid, levelPart};
+ghost use Rattle.definitions.specs.Build.{build};
 ghost use Rattle.definitions.specs.Geometry.{offset, doubled, listed};
 ghost use Rattle.definitions.specs.Bitmap.{bitmapWords};
-ghost use Rattle.definitions.specs.Align.{log2, levels, tried, refine, stepAt, comparisonsAt, costOf, step, comparisons, stackOf, shifts, stepBytes, stepWords, stackNeed};
-ghost use Rattle.definitions.specs.Refusals.{answer, after, FreeUpTo, Scratch, unequal, pyramidChecks, stepChecks, stackChecks};
+ghost use Rattle.definitions.specs.Align.{log2, levels, tried, refine, stepAt, comparisonsAt, costOf, step, comparisons, stackOf, shiftOf, stepBytes, stepWords, stackNeed};
+ghost use Rattle.definitions.specs.Align as stacks;
+ghost use Rattle.definitions.specs.Refusals.{accepted, refused, answer, after, FreeUpTo, Scratch, sideOver, unequal, pairDiffers, pyramidChecks, stepChecks, framesChecks, stackScratchChecks, stackChecks};
 ghost use Rattle.mtb_align.specs.Answers.{outcome, modeOf, shiftIn, steppedIn, stepAnswer, Stepped};
 ghost use Rattle.mtb_align.specs.Nine.{costOfMaps};
 ghost use Rattle.mtb_align.specs.declared.shrink.Shrink.the-variants.{Average, Subsample};
 ghost use Rattle.mtb_align.specs.Levelled.{Levelled};
 ghost use Rattle.mtb_align.specs.Search.{FourMaps, costIn, costBetween, exposureOf, optionsIn};
+ghost use Rattle.mtb_align.specs.Stack.{stackIn, stepBetween, Ready};
 
 // The base-two logarithm, rounded down.
 fn log_of(n: usize) -> usize
@@ -676,5 +679,390 @@ pub fn shift(
             ))
         }
         Outcome::Refused(error) => StepAnswer::Refused(error),
+    }
+}
+
+// The bytes of scratch that a step needs.
+fn bytes_needed(width: usize, height: usize, bits: u32) -> usize
+    requires { ⌜ (width ≤ 8192) × (height ≤ 8192) ⌝ }
+    ensures { λ r. ⌜ r ≡ stepBytes width height bits ⌝ }
+{
+    2 * halved_samples(width, height, shrinks(width, height, bits))
+}
+
+// The words of scratch that a step needs.
+fn words_needed(width: usize, height: usize) -> usize
+    requires { ⌜ (width ≤ 8192) × (height ≤ 8192) ⌝ }
+    ensures { λ r. ⌜ r ≡ stepWords width height ⌝ }
+{
+    4 * (height * words_per_row(width))
+}
+
+// Whether the scratch is long enough for the steps of n frames, by its lengths: with one frame there is none.
+pub(crate) fn scratch_fits(
+    n: usize,
+    width: usize,
+    height: usize,
+    bits: u32,
+    bytes: usize,
+    words: usize,
+) -> Outcome
+    requires { ⌜ (width ≤ 8192) × (height ≤ 8192) ⌝ }
+    ensures { λ r. ⌜ outcome r ≡ answer (stackScratchChecks n width height bits bytes words) tt ⌝ }
+{
+    if n <= 1 {
+        return Outcome::Done;
+    }
+    if bytes < bytes_needed(width, height, bits) {
+        return Outcome::Refused(Error::Scratch);
+    }
+    if words < words_needed(width, height) {
+        return Outcome::Refused(Error::Scratch);
+    }
+    Outcome::Done
+}
+
+// A side of the list is over 8,192.
+fn any_over(sides: &[usize]) -> bool
+    ensures { λ r. ⌜ answer (map sideOver (now (sides .entry))) (tt {0}) ≡ cond {0} r (refused 1 []) (accepted tt) ⌝ }
+{
+    let mut k: usize = 0;
+    while k < sides.len() {
+        if sides[k] > 8192 {
+            return true;
+        }
+        k += 1;
+    }
+    false
+}
+
+// Two frames are not of one size.
+fn frames_differ(widths: &[usize], heights: &[usize], first: usize, second: usize) -> bool
+    requires { ⌜ (first < length (now widths)) × (second < length (now widths)) × (length (now heights) ≡ length (now widths)) ⌝ }
+    ensures { λ r. ⌜ r ≡ unequal (getD (now (widths .entry)) first 0) (getD (now (heights .entry)) first 0) (getD (now (widths .entry)) second 0) (getD (now (heights .entry)) second 0) ⌝ }
+{
+    if widths[first] != widths[second] {
+        return true;
+    }
+    heights[first] != heights[second]
+}
+
+// The refusal of a frame that is not of its neighbour's size.
+fn mismatch(widths: &[usize], heights: &[usize], neighbour: usize, frame: usize) -> Outcome
+    requires { ⌜ (neighbour < length (now widths)) × (frame < length (now widths)) × (length (now heights) ≡ length (now widths)) ⌝ }
+    ensures { λ r. ⌜ outcome r ≡ refused 4 (getD (now (widths .entry)) neighbour 0 ∷ getD (now (heights .entry)) neighbour 0 ∷ getD (now (widths .entry)) frame 0 ∷ getD (now (heights .entry)) frame 0 ∷ frame ∷ []) ⌝ }
+{
+    Outcome::Refused(Error::FrameMismatch(
+        Size {
+            width: widths[neighbour],
+            height: heights[neighbour],
+        },
+        Size {
+            width: widths[frame],
+            height: heights[frame],
+        },
+        frame,
+    ))
+}
+
+// Whether each frame below the reference is of its neighbour's size, from the reference down.
+fn pairs_below(widths: &[usize], heights: &[usize], reference: usize) -> Outcome
+    requires { ⌜ (reference < length (now widths)) × (length (now heights) ≡ length (now widths)) ⌝ }
+    ensures { λ r. ⌜ outcome r ≡ answer (map (pairDiffers (now (widths .entry)) (now (heights .entry)) reference) (build reference (λ i. reference - suc i))) tt ⌝ }
+{
+    let mut k = reference;
+    while 0 < k {
+        if frames_differ(widths, heights, k, k - 1) {
+            return mismatch(widths, heights, k, k - 1);
+        }
+        k -= 1;
+    }
+    Outcome::Done
+}
+
+// Whether each frame above the reference is of its neighbour's size, from the reference up.
+fn pairs_above(widths: &[usize], heights: &[usize], reference: usize) -> Outcome
+    requires { ⌜ (reference < length (now widths)) × (length (now heights) ≡ length (now widths)) ⌝ }
+    ensures { λ r. ⌜ outcome r ≡ answer (map (pairDiffers (now (widths .entry)) (now (heights .entry)) reference) (build (length (now (widths .entry)) - suc reference) (λ i. reference + suc i))) tt ⌝ }
+{
+    let mut k = reference + 1;
+    while k < widths.len() {
+        if frames_differ(widths, heights, k - 1, k) {
+            return mismatch(widths, heights, k - 1, k);
+        }
+        k += 1;
+    }
+    Outcome::Done
+}
+
+// Whether the frames of a stack are in order, by their sizes, the percentile and the reference.
+pub(crate) fn frames_fit(
+    widths: &[usize],
+    heights: &[usize],
+    percentile: u8,
+    reference: usize,
+) -> Outcome
+    ensures { λ r. ⌜ outcome r ≡ answer (framesChecks (now (widths .entry)) (now (heights .entry)) percentile reference) tt ⌝ }
+{
+    if widths.len() > 16 {
+        return Outcome::Refused(Error::Frames);
+    }
+    if heights.len() > 16 {
+        return Outcome::Refused(Error::Frames);
+    }
+    if heights.len() != widths.len() {
+        return Outcome::Refused(Error::Length);
+    }
+    if any_over(widths) {
+        return Outcome::Refused(Error::Side);
+    }
+    if any_over(heights) {
+        return Outcome::Refused(Error::Side);
+    }
+    if percentile > 100 {
+        return Outcome::Refused(Error::Percentile);
+    }
+    if reference >= widths.len() {
+        return Outcome::Refused(Error::NoSuchReference(reference, widths.len()));
+    }
+    match pairs_below(widths, heights, reference) {
+        Outcome::Done => pairs_above(widths, heights, reference),
+        Outcome::Refused(error) => Outcome::Refused(error),
+    }
+}
+
+// Whether a stack is in order, by its frames and the lengths of its buffers.
+fn stack_fits(
+    widths: &[usize],
+    heights: &[usize],
+    percentile: u8,
+    reference: usize,
+    bits: u32,
+    samples: usize,
+    shifts: usize,
+    bytes: usize,
+    words: usize,
+) -> Outcome
+    ensures { λ r. ⌜ outcome r ≡ answer (stackChecks (now (widths .entry)) (now (heights .entry)) percentile reference bits samples shifts bytes words) tt ⌝ }
+{
+    match frames_fit(widths, heights, percentile, reference) {
+        Outcome::Done => {
+            let n = widths.len();
+            let width = widths[0];
+            let height = heights[0];
+            if samples != n * (width * height) {
+                return Outcome::Refused(Error::Length);
+            }
+            if shifts != 2 * n {
+                return Outcome::Refused(Error::Length);
+            }
+            scratch_fits(n, width, height, bits, bytes, words)
+        }
+        Outcome::Refused(error) => Outcome::Refused(error),
+    }
+}
+
+// The sum of two shifts that are far from the limits of i32.
+fn added(a: Shift, b: Shift) -> Shift
+    requires { ⌜ Within 1048576 (shiftIn a) × Within 1048576 (shiftIn b) ⌝ }
+    ensures { λ r. ⌜ shiftIn r ≡ offset (shiftIn a) (shiftIn b) ⌝ }
+{
+    Shift {
+        x: a.x + b.x,
+        y: a.y + b.y,
+    }
+}
+
+// The shift of frame k goes into the list.
+fn put_shift(shifts: &mut [i32], k: usize, s: Shift)
+    requires { ⌜ 2 * k + 2 ≤ length (now shifts) ⌝ }
+    ensures { λ _. ⌜ now (shifts .exit) ≡ sets (now (shifts .entry)) (2 * k) (listed (shiftIn s ∷ [])) ⌝ }
+{
+    let x = s.x;
+    let y = s.y;
+    shifts[2 * k] = x;
+    shifts[2 * k + 1] = y;
+}
+
+// The step of one frame of a stack against another.
+fn frame_step(
+    samples: &[u8],
+    width: usize,
+    height: usize,
+    neighbour: usize,
+    frame: usize,
+    options: Options,
+    bytes: &mut [u8],
+    words: &mut [u64],
+) -> Shift
+    requires { ⌜
+        (width ≤ 8192) × (height ≤ 8192) × (options .percentile ≤ 100)
+        × ((neighbour + 1) * (width * height) ≤ length (now samples)) × ((frame + 1) * (width * height) ≤ length (now samples))
+        × (stepBytes width height (options .bits) ≤ length (now bytes))
+        × (stepWords width height ≤ length (now words))
+        ⌝ }
+    ensures { λ r. ⌜ shiftIn r ≡ stepBetween width height (now (samples .entry)) options neighbour frame ⌝ }
+    ensures { λ _. ⌜ FreeUpTo (stepBytes width height (options .bits)) (now (bytes .entry)) (now (bytes .exit)) ⌝ }
+    ensures { λ _. ⌜ FreeUpTo (stepWords width height) (now (words .entry)) (now (words .exit)) ⌝ }
+{
+    let size = width * height;
+    let near = neighbour * size;
+    let near_end = near + size;
+    let at = frame * size;
+    let end = at + size;
+    let percentile = options.percentile;
+    let step = step_of(
+        &samples[near..near_end],
+        &samples[at..end],
+        width,
+        height,
+        percentile,
+        percentile,
+        options,
+        bytes,
+        words,
+    );
+    step.shift
+}
+
+// The shifts of the frames below the reference, from the reference down.
+fn walk_below(
+    samples: &[u8],
+    width: usize,
+    height: usize,
+    reference: usize,
+    options: Options,
+    shifts: &mut [i32],
+    bytes: &mut [u8],
+    words: &mut [u64],
+)
+    requires { ⌜ Ready width height (reference + 1) (options .percentile) (options .bits) (length (now samples)) (length (now shifts)) (length (now bytes)) (length (now words)) ⌝ }
+    ensures { λ _. ⌜ now (shifts .exit) ≡ sets (now (shifts .entry)) 0 (listed (build reference (shiftOf (stackIn width height (reference + 1) (now (samples .entry)) reference options)))) ⌝ }
+    ensures { λ _. ⌜ FreeUpTo (stackNeed (reference + 1) (stepBytes width height (options .bits))) (now (bytes .entry)) (now (bytes .exit)) ⌝ }
+    ensures { λ _. ⌜ FreeUpTo (stackNeed (reference + 1) (stepWords width height)) (now (words .entry)) (now (words .exit)) ⌝ }
+{
+    let mut s = Shift { x: 0, y: 0 };
+    let mut k = reference;
+    while 0 < k {
+        let step = frame_step(samples, width, height, k, k - 1, options, bytes, words);
+        s = added(s, step);
+        k -= 1;
+        put_shift(shifts, k, s);
+    }
+}
+
+// The shifts of the frames above the reference, from the reference up.
+fn walk_above(
+    samples: &[u8],
+    width: usize,
+    height: usize,
+    reference: usize,
+    n: usize,
+    options: Options,
+    shifts: &mut [i32],
+    bytes: &mut [u8],
+    words: &mut [u64],
+)
+    requires { ⌜ (reference < n) × Ready width height n (options .percentile) (options .bits) (length (now samples)) (length (now shifts)) (length (now bytes)) (length (now words)) ⌝ }
+    ensures { λ _. ⌜ now (shifts .exit) ≡ sets (now (shifts .entry)) (2 * (reference + 1)) (listed (build (n - (reference + 1)) (λ i. shiftOf (stackIn width height n (now (samples .entry)) reference options) (reference + 1 + i)))) ⌝ }
+    ensures { λ _. ⌜ FreeUpTo (stackNeed n (stepBytes width height (options .bits))) (now (bytes .entry)) (now (bytes .exit)) ⌝ }
+    ensures { λ _. ⌜ FreeUpTo (stackNeed n (stepWords width height)) (now (words .entry)) (now (words .exit)) ⌝ }
+{
+    let mut s = Shift { x: 0, y: 0 };
+    let mut k = reference + 1;
+    while k < n {
+        let step = frame_step(samples, width, height, k - 1, k, options, bytes, words);
+        s = added(s, step);
+        put_shift(shifts, k, s);
+        k += 1;
+    }
+}
+
+// The shifts of n frames: those below the reference, the reference's own, and those above it.
+fn walk(
+    samples: &[u8],
+    width: usize,
+    height: usize,
+    reference: usize,
+    n: usize,
+    options: Options,
+    shifts: &mut [i32],
+    bytes: &mut [u8],
+    words: &mut [u64],
+)
+    requires { ⌜ (reference < n) × Ready width height n (options .percentile) (options .bits) (length (now samples)) (length (now shifts)) (length (now bytes)) (length (now words)) ⌝ }
+    ensures { λ _. ⌜ now (shifts .exit) ≡ sets (now (shifts .entry)) 0 (listed (stacks.shifts (stackIn width height n (now (samples .entry)) reference options))) ⌝ }
+    ensures { λ _. ⌜ FreeUpTo (stackNeed n (stepBytes width height (options .bits))) (now (bytes .entry)) (now (bytes .exit)) ⌝ }
+    ensures { λ _. ⌜ FreeUpTo (stackNeed n (stepWords width height)) (now (words .entry)) (now (words .exit)) ⌝ }
+{
+    walk_below(
+        samples,
+        width,
+        height,
+        reference,
+        options,
+        shifts,
+        bytes,
+        words,
+    );
+    put_shift(shifts, reference, Shift { x: 0, y: 0 });
+    walk_above(
+        samples,
+        width,
+        height,
+        reference,
+        n,
+        options,
+        shifts,
+        bytes,
+        words,
+    );
+}
+
+// How far each frame has to move to sit on the reference, measured between neighbours and added up; x then y for each frame.
+// Refused: 6, 2, 1, 3, 5, 4, 2, 7.
+pub fn align_stack(
+    widths: &[usize],
+    heights: &[usize],
+    samples: &[u8],
+    reference: usize,
+    options: Options,
+    shifts: &mut [i32],
+    bytes: &mut [u8],
+    words: &mut [u64],
+) -> Outcome
+    ensures answer { λ r. ⌜ outcome r ≡ answer (stackChecks (now (widths .entry)) (now (heights .entry)) (options .percentile) reference (options .bits) (length (now (samples .entry))) (length (now (shifts .entry))) (length (now (bytes .entry))) (length (now (words .entry)))) tt ⌝ }
+    ensures shifts { λ _. ⌜ now (shifts .exit) ≡ after (stackChecks (now (widths .entry)) (now (heights .entry)) (options .percentile) reference (options .bits) (length (now (samples .entry))) (length (now (shifts .entry))) (length (now (bytes .entry))) (length (now (words .entry)))) (listed (stacks.shifts (stackOf (now (widths .entry)) (now (heights .entry)) (now (samples .entry)) reference (options .percentile) (optionsIn options)))) (now (shifts .entry)) ⌝ }
+    ensures bytes { λ _. ⌜ Scratch (stackChecks (now (widths .entry)) (now (heights .entry)) (options .percentile) reference (options .bits) (length (now (samples .entry))) (length (now (shifts .entry))) (length (now (bytes .entry))) (length (now (words .entry)))) (stackNeed (length (now (widths .entry))) (stepBytes (getD (now (widths .entry)) 0 0) (getD (now (heights .entry)) 0 0) (options .bits))) (now (bytes .entry)) (now (bytes .exit)) ⌝ }
+    ensures words { λ _. ⌜ Scratch (stackChecks (now (widths .entry)) (now (heights .entry)) (options .percentile) reference (options .bits) (length (now (samples .entry))) (length (now (shifts .entry))) (length (now (bytes .entry))) (length (now (words .entry)))) (stackNeed (length (now (widths .entry))) (stepWords (getD (now (widths .entry)) 0 0) (getD (now (heights .entry)) 0 0))) (now (words .entry)) (now (words .exit)) ⌝ }
+{
+    match stack_fits(
+        widths,
+        heights,
+        options.percentile,
+        reference,
+        options.bits,
+        samples.len(),
+        shifts.len(),
+        bytes.len(),
+        words.len(),
+    ) {
+        Outcome::Done => {
+            let width = widths[0];
+            let height = heights[0];
+            walk(
+                samples,
+                width,
+                height,
+                reference,
+                widths.len(),
+                options,
+                shifts,
+                bytes,
+                words,
+            );
+            Outcome::Done
+        }
+        Outcome::Refused(error) => Outcome::Refused(error),
     }
 }

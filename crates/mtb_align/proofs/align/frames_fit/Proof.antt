@@ -1,0 +1,127 @@
+-- `mtb_align::align::frames_fit` meets its contract. Assumes nothing.
+use mathlib.Core.Path.{_≡_, sym, ap, _∙_}
+use mathlib.Core.Bool.{Bool, cond}
+use mathlib.Core.List.{[], _++_, map}
+use Prim.Native.Nat.{ℕ, suc, _+_, _-_}
+use borrow.Author.Needs.{needs}
+use lib.ListN.{length}
+use Rattle.definitions.specs.Build.{build}
+use Rattle.definitions.specs.Refusals.{Check, Answer, accepted, refused, answer, sideOver, pairDiffers, framesChecks}
+use Rattle.laws.specs.Checks.{length-stop, percentile-stop, percentile-skip}
+use Rattle.laws.specs.ChecksStack.{stop-all, skip-all, frames-stop, frames-skip, reference-stop, pairs-apart, sides, numbersLeft, past-lengths, past-sides, past-numbers, widths-stop, heights-stop}
+use Rattle.mtb_align.specs.Answers.{outcome}
+use Rattle.mtb_align.proofs.align.frames_fit.Statement.{statement}
+use Rattle.mtb_align.proofs.align.frames_fit.Tie as tie
+
+-- what the code's test of a list of sides says
+abbrev sided : Bool → Answer (Unit {0})
+sided over = cond over (refused 1 []) (accepted tt)
+
+-- past the tests of the lengths
+lengths : (c : tie.Else3) {r : Answer (Unit {0})}
+    → let a = c .before .before .before .before .before .args in
+    r ≡ answer (sides (a .widths .now) (a .heights .now) (a .percentile) (a .reference) ++ numbersLeft (a .widths .now) (a .heights .now) (a .percentile) (a .reference)) tt
+    → r ≡ answer (framesChecks (a .widths .now) (a .heights .now) (a .percentile) (a .reference)) tt
+lengths c h = past-lengths _ _ _ _ (c .before .before .if1 .left) (c .before .if2 .left) (c .if3 .left) h
+
+-- past the test of the widths
+wide : (c : tie.Else4) → answer (map sideOver (c .before .before .before .before .before .before .before .args .widths .now)) (tt {0}) ≡ accepted tt
+wide c = c .before .any-over .ensures ∙ ap sided (c .if4 .left)
+
+-- past the tests of all sides
+past : (c : tie.Else5) {r : Answer (Unit {0})}
+    → let a = c .before .before .before .before .before .before .before .before .before .args in
+    r ≡ answer (numbersLeft (a .widths .now) (a .heights .now) (a .percentile) (a .reference)) tt
+    → r ≡ answer (framesChecks (a .widths .now) (a .heights .now) (a .percentile) (a .reference)) tt
+past c h =
+    let d = c .before .before in
+    let a = d .before .before .before .before .before .before .before .args in
+    lengths (d .before .before) (past-sides (a .widths .now) (a .heights .now) (a .percentile) (a .reference) (wide d) (c .before .any-over2 .ensures ∙ ap sided (c .if5 .left)) h)
+
+-- past all tests: what is left are the pairs
+pairs : (c : tie.Else7) {r : Answer (Unit {0})}
+    → let a = c .before .before .before .before .before .before .before .before .before .before .before .args in
+    let f : ℕ → Check = pairDiffers (a .widths .now) (a .heights .now) (a .reference) in
+    r ≡ answer (map f (build (a .reference) (λ i. a .reference - suc i)) ++ map f (build (length (a .widths .now) - suc (a .reference)) (λ i. a .reference + suc i))) tt
+    → r ≡ answer (framesChecks (a .widths .now) (a .heights .now) (a .percentile) (a .reference)) tt
+pairs c h =
+    let a = c .before .before .before .before .before .before .before .before .before .before .before .args in
+    past (c .before .before) (past-numbers (a .widths .now) (a .heights .now) (a .percentile) (a .reference) (c .before .if6 .left) (c .if7 .left) (h ∙ sym (ap (λ l. answer l tt) (pairs-apart _ _ _))))
+
+returns : tie.Need-returns
+unfolding framesChecks
+returns c = frames-stop tt _ _ (c .if1 .taken)
+
+returns-2 : tie.Need-returns-2
+unfolding framesChecks
+returns-2 c = frames-skip tt _ _ (c .before .if1 .left) (frames-stop tt _ _ (c .if2 .taken))
+
+returns-3 : tie.Need-returns-3
+unfolding framesChecks
+returns-3 c = frames-skip tt _ _ (c .before .before .if1 .left) (frames-skip tt _ _ (c .before .if2 .left) (length-stop tt _ _ _ (c .if3 .taken)))
+
+any-over-requires : tie.Need-any-over-requires
+any-over-requires c κs = search needs
+
+returns-4 : tie.Need-returns-4
+returns-4 c =
+    let d = c .before .before in
+    let a = d .before .before .before .before .before .args in
+    lengths d (widths-stop (a .widths .now) (a .heights .now) (a .percentile) (a .reference) (c .before .any-over .ensures ∙ ap sided (c .if4 .taken)))
+
+any-over-requires-2 : tie.Need-any-over-requires-2
+any-over-requires-2 c κs = search needs
+
+returns-5 : tie.Need-returns-5
+returns-5 c =
+    let d = c .before .before in
+    let a = d .before .before .before .before .before .before .before .args in
+    lengths (d .before .before) (heights-stop (a .widths .now) (a .heights .now) (a .percentile) (a .reference) (wide d) (c .before .any-over2 .ensures ∙ ap sided (c .if5 .taken)))
+
+returns-6 : tie.Need-returns-6
+returns-6 c = past (c .before) (percentile-stop tt _ _ (c .if6 .taken))
+
+returns-7 : tie.Need-returns-7
+returns-7 c = past (c .before .before) (percentile-skip tt _ _ (c .before .if6 .left) (reference-stop tt _ _ _ (c .if7 .taken)))
+
+pairs-below-requires : tie.Need-pairs-below-requires
+pairs-below-requires c κs = search needs
+
+enum-told : tie.Need-enum-told
+enum-told c = search needs
+
+pairs-above-requires : tie.Need-pairs-above-requires
+pairs-above-requires c κs = search needs
+
+enum-known-error : tie.Need-enum-known-error
+enum-known-error c = search needs
+
+returns-8 : tie.Need-returns-8
+returns-8 c =
+    let d = c .before .before .before in
+    pairs (d .before) (skip-all tt _ _ (sym (ap outcome (sym (c .before .enum-told .given .1)) ∙ d .pairs-below .ensures)) (c .pairs-above .ensures))
+
+returns-9 : tie.Need-returns-9
+returns-9 c =
+    let d = c .before .before .before in
+    pairs (d .before) (stop-all tt _ _ (sym (ap outcome (sym (c .before .error .given .1)) ∙ d .pairs-below .ensures)))
+
+pub frames-fit-spec : {M : Type 1} → statement M
+frames-fit-spec =
+    tie.close
+    (tie.spec
+    returns
+    returns-2
+    returns-3
+    any-over-requires
+    returns-4
+    any-over-requires-2
+    returns-5
+    returns-6
+    returns-7
+    pairs-below-requires
+    enum-told
+    pairs-above-requires
+    enum-known-error
+    returns-8
+    returns-9)

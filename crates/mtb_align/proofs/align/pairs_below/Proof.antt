@@ -1,0 +1,63 @@
+-- `mtb_align::align::pairs_below` meets its contract. The pairs walked so far, from the reference down, are equal. Assumes nothing.
+use mathlib.Core.Path.{sym, _∙_}
+use native.Mathlib.Omega.{arith}
+use Rattle.mtb_align.proofs.Pairs.{AlikeBelow, none-below, one-below, unlike-below, all-below}
+use Rattle.mtb_align.proofs.align.pairs_below.Statement.{statement}
+use Rattle.mtb_align.proofs.align.pairs_below.Tie as tie
+
+abbrev Inv-loop : tie.InvT-loop
+Inv-loop widths heights reference k₀ k = AlikeBelow widths heights reference k
+
+abbrev μ-loop : tie.MeasureT-loop
+μ-loop widths heights reference k₀ k = k
+
+loop-holds : tie.Need-loop-holds Inv-loop μ-loop
+loop-holds c = none-below _ _ _
+
+sub-frames-differ : tie.Need-sub-frames-differ Inv-loop μ-loop
+sub-frames-differ c = omega arith
+
+frames-differ-requires : tie.Need-frames-differ-requires Inv-loop μ-loop
+frames-differ-requires c κs = omega arith
+
+sub-mismatch : tie.Need-sub-mismatch Inv-loop μ-loop
+sub-mismatch c = omega arith
+
+mismatch-requires : tie.Need-mismatch-requires Inv-loop μ-loop
+mismatch-requires c κs = omega arith
+
+returns : tie.Need-returns Inv-loop μ-loop
+returns c =
+    let d = c .before .before in
+    c .mismatch .ensures ∙ unlike-below _ _ _ _ (d .before .before .loop .inv) (d .before .loop-test .taken) (sym (d .frames-differ .ensures) ∙ c .before .if1 .taken)
+
+sub-k : tie.Need-sub-k Inv-loop μ-loop
+sub-k c = omega arith
+
+loop-less : tie.Need-loop-less Inv-loop μ-loop
+loop-less c = omega arith
+
+loop-again : tie.Need-loop-again Inv-loop μ-loop
+loop-again c =
+    let d = c .before in
+    one-below _ _ _ _ (d .before .before .loop .inv) (d .before .loop-test .taken) (sym (d .frames-differ .ensures) ∙ c .if1 .left)
+
+returns-2 : tie.Need-returns-2 Inv-loop μ-loop
+returns-2 c = all-below _ _ _ _ (c .before .loop .inv) (c .loop-test .left)
+
+pub pairs-below-spec : {M : Type 1} → statement M
+pairs-below-spec =
+    tie.close
+    (tie.spec
+    Inv-loop
+    μ-loop
+    loop-holds
+    sub-frames-differ
+    frames-differ-requires
+    sub-mismatch
+    mismatch-requires
+    returns
+    sub-k
+    loop-less
+    loop-again
+    returns-2)

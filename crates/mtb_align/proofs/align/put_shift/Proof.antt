@@ -1,0 +1,64 @@
+-- `mtb_align::align::put_shift` meets its contract. Assumes nothing.
+use mathlib.Core.Path.{ap, ap₂, _∙_}
+use Prim.Native.Nat.{ℕ, _+_, _*_}
+use native.Mathlib.Numerals.{add-one}
+use borrow.Author.Needs.{needs}
+use native.Mathlib.Omega.{arith}
+use lib.IntN.{ℤ}
+use lib.ListN.{set}
+use lib.Seq.{lt-length-set}
+use mir.Syntax.{w32}
+use mir.Val.{SFits}
+use mir.Facts.{toZ-ofZ}
+use Rattle.definitions.specs.Geometry.{listed}
+use Rattle.mtb_align.proofs.align.put_shift.Statement.{statement}
+use Rattle.mtb_align.proofs.align.put_shift.Tie as tie
+
+mul-x : tie.Need-mul-x
+mul-x c = search needs
+
+mul-x-2 : tie.Need-mul-x-2
+mul-x-2 c = search needs
+
+slice-set-from-x : tie.Need-slice-set-from-x
+slice-set-from-x c = search needs
+
+mul-y : tie.Need-mul-y
+mul-y c = search needs
+
+add-y : tie.Need-add-y
+add-y c = search needs
+
+mul-y-2 : tie.Need-mul-y-2
+mul-y-2 c = search needs
+
+slice-set-from-y : tie.Need-slice-set-from-y
+slice-set-from-y c =
+    let a = c .before .before .args in
+    lt-length-set (a .shifts .now) (2 * a .k) _ (omega arith)
+
+same-length : tie.Need-same-length
+same-length c = search needs
+
+returns : tie.Need-returns
+unfolding listed
+returns c =
+    let a = c .before .before .args in
+    let x : SFits w32 (a .s .x) = record { sfits = c .before .struct-told .given .0 .1 } in
+    let y : SFits w32 (a .s .y) = record { sfits = c .struct-told2 .given .1 .0 .1 } in
+    ap₂ (λ (u v : ℤ). set (set (a .shifts .now) (2 * a .k) u) (2 * a .k + 1) v) (toZ-ofZ x) (toZ-ofZ y)
+    ∙ ap (λ (i : ℕ). set (set (a .shifts .now) (2 * a .k) (a .s .x)) i (a .s .y)) (add-one (2 * a .k))
+
+pub put-shift-spec : {M : Type 1} → statement M
+put-shift-spec =
+    tie.close
+    (tie.spec
+    mul-x
+    mul-x-2
+    slice-set-from-x
+    mul-y
+    add-y
+    mul-y-2
+    slice-set-from-y
+    same-length
+    returns)

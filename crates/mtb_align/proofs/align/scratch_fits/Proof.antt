@@ -1,0 +1,50 @@
+-- `mtb_align::align::scratch_fits` meets its contract. Assumes nothing.
+use mathlib.Core.Path.{_≡_, sym, _∙_}
+use borrow.Author.Needs.{needs}
+use native.Mathlib.Omega.{arith}
+use Rattle.definitions.specs.Align.{stepBytes, stepWords, stackNeed}
+use Rattle.definitions.specs.Refusals.{stackScratchChecks}
+use Rattle.laws.specs.Checks.{scratch-stop, scratch-skip, done}
+use Rattle.laws.specs.StackWalks.{need-one, need-two}
+use Rattle.mtb_align.proofs.align.scratch_fits.Statement.{statement}
+use Rattle.mtb_align.proofs.align.scratch_fits.Tie as tie
+
+-- what the code takes for the two needs, with two frames or more
+bytes-are : (c : tie.After-bytes-needed) → let a = c .before .before .args in c .bytes-needed .result ≡ stackNeed (a .n) (stepBytes (a .width) (a .height) (a .bits))
+bytes-are c = c .bytes-needed .ensures ∙ sym (need-two _ _ (c .before .if1 .left))
+
+words-are : (c : tie.After-words-needed) → let a = c .before .before .before .before .args in c .words-needed .result ≡ stackNeed (a .n) (stepWords (a .width) (a .height))
+words-are c = c .words-needed .ensures ∙ sym (need-two _ _ (c .before .before .before .if1 .left))
+
+returns : tie.Need-returns
+unfolding stackScratchChecks
+returns c =
+    let a = c .before .args in
+    scratch-skip tt _ _ _ (omega (arith, need-one (a .n) (stepBytes (a .width) (a .height) (a .bits)) (c .if1 .taken))) (scratch-skip tt _ _ _ (omega (arith, need-one (a .n) (stepWords (a .width) (a .height)) (c .if1 .taken))) (done tt))
+
+bytes-needed-requires : tie.Need-bytes-needed-requires
+bytes-needed-requires c κs = search needs
+
+returns-2 : tie.Need-returns-2
+unfolding stackScratchChecks
+returns-2 c = scratch-stop tt _ _ _ (omega (arith, bytes-are (c .before), c .if2 .taken))
+
+words-needed-requires : tie.Need-words-needed-requires
+words-needed-requires c κs = search needs
+
+returns-3 : tie.Need-returns-3
+unfolding stackScratchChecks
+returns-3 c =
+    let b = c .before .before in
+    scratch-skip tt _ _ _ (omega (arith, bytes-are (b .before), b .if2 .left)) (scratch-stop tt _ _ _ (omega (arith, words-are (c .before), c .if3 .taken)))
+
+returns-4 : tie.Need-returns-4
+unfolding stackScratchChecks
+returns-4 c =
+    let b = c .before .before in
+    scratch-skip tt _ _ _ (omega (arith, bytes-are (b .before), b .if2 .left)) (scratch-skip tt _ _ _ (omega (arith, words-are (c .before), c .if3 .left)) (done tt))
+
+pub scratch-fits-spec : {M : Type 1} → statement M
+scratch-fits-spec =
+    tie.close
+    (tie.spec returns bytes-needed-requires returns-2 words-needed-requires returns-3 returns-4)
