@@ -120,7 +120,7 @@ struct Places {
     d: usize,
 }
 
-fn places(numbers: &[u64]) -> Places {
+fn find_places(numbers: &[u64]) -> Places {
     let a = 1;
     let b = a + 1 + at(numbers, a) % 1024;
     let c = b + 1 + at(numbers, b) % 1024 + 2;
@@ -169,7 +169,7 @@ fn counted(numbers: &[u64], p: Places, rt: &[u64], re: &[u64], st: &[u64], se: &
 }
 
 pub(crate) fn disagreement(numbers: &[u64]) -> bool {
-    let p = places(numbers);
+    let p = find_places(numbers);
     let a = p.a;
     let b = p.b;
     let c = p.c;

@@ -37,7 +37,7 @@ fn replayed(text: &[u8]) {
 }
 
 fn main() {
-    let mut text = [0u8; 786432];
+    let mut text = [0u8; 262144];
     let n = io::read_full(0, &mut text);
     replayed(&text[..n]);
 }
