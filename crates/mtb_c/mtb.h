@@ -75,6 +75,32 @@ uint32_t mtb_shifted(const uint8_t *samples, size_t samples_length, size_t width
 uint32_t mtb_common_crop(const int32_t *shifts, size_t shifts_length, size_t width, size_t height,
                          size_t *left, size_t *top, size_t *wide, size_t *high);
 
+/* The counts of two packed pairs at a shift, of places that compare and of those that disagree. Refused: 1 for either size; 4; 2 for any of
+   the four bitmaps; 8. Writes disagreeing, compared. */
+uint32_t mtb_disagreement(const uint64_t *reference_threshold, size_t reference_threshold_length,
+                          const uint64_t *reference_exclusion, size_t reference_exclusion_length,
+                          size_t width, size_t height,
+                          const uint64_t *target_threshold, size_t target_threshold_length,
+                          const uint64_t *target_exclusion, size_t target_exclusion_length,
+                          size_t target_width, size_t target_height,
+                          int32_t x, int32_t y, uint64_t *disagreeing, uint64_t *compared);
+
+/* The step of two frames: the shift of the target. Refused: 1; 3; 4; 2 for either frame; 7. Writes x, y, comparisons, and the scratch that it
+   needs: of bytes, the halved levels of both; of words, 4 * ceil(width / 64) * height. */
+uint32_t mtb_shift(const uint8_t *reference, size_t reference_length, size_t width, size_t height,
+                   const uint8_t *target, size_t target_length, size_t target_width, size_t target_height,
+                   uint32_t bits, uint8_t tolerance, uint8_t percentile, bool subsampled,
+                   uint8_t *bytes, size_t bytes_length, uint64_t *words, size_t words_length,
+                   int32_t *x, int32_t *y, uint64_t *comparisons);
+
+/* The shift of every frame of a stack, x then y, where samples has the frames one after another. Refused: 6; 2 for heights; 1; 3; 5; 4; 2 for
+   samples, shifts; 7. Writes shifts, and the scratch of a step of two of its frames, none for one frame. */
+uint32_t mtb_align_stack(const size_t *widths, size_t widths_length, const size_t *heights, size_t heights_length,
+                         const uint8_t *samples, size_t samples_length, size_t reference,
+                         uint32_t bits, uint8_t tolerance, uint8_t percentile, bool subsampled,
+                         int32_t *shifts, size_t shifts_length,
+                         uint8_t *bytes, size_t bytes_length, uint64_t *words, size_t words_length);
+
 #ifdef __cplusplus
 }
 #endif

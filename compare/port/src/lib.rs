@@ -10,5 +10,7 @@
 //! for its length and that outputs overlap nothing, which references see to. So the
 //! functions here are safe.
 
+pub mod counts;
 pub mod frames;
 pub mod moves;
+pub mod search;

@@ -97,6 +97,16 @@ impl<T: Element> Lent<T> {
         Ok(self.list().to_vec())
     }
 
+    /// A scratch after a call that may leave anything in its first `need` elements,
+    /// if accepted.
+    pub fn used_up_to(&self, need: usize, input: &str, status: u32) -> Outcome {
+        if status != 0 {
+            return self.is_kept(input);
+        }
+        self.are_kept(input, 0..self.lent.start)?;
+        self.are_kept(input, self.lent.start + need..self.all.len())
+    }
+
     fn are_kept(&self, input: &str, places: Range<usize>) -> Outcome {
         let (now, before) = (&self.all[places.clone()], &self.before[places.clone()]);
         if now == before {

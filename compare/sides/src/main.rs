@@ -2,9 +2,11 @@
 //! by call. Takes a seed, or none for the usual one. Ends at the first disagreement.
 
 mod claims;
+mod counts;
 mod frames;
 mod lent;
 mod moves;
+mod search;
 
 use std::fmt::Debug;
 use std::process::ExitCode;
@@ -12,7 +14,7 @@ use std::process::ExitCode;
 use compare::trials::{self, Call, Outcome, call, same};
 use naive::Refusal;
 
-const CALLS: [Call; 13] = [
+const CALLS: [Call; 16] = [
     call("from_rgb", 3000, frames::from_rgb),
     call("shrink2 average", 3000, frames::shrink2_average),
     call("shrink2 subsample", 3000, frames::shrink2_subsample),
@@ -26,6 +28,9 @@ const CALLS: [Call; 13] = [
     call("offset", 4000, moves::offset),
     call("shifted", 4000, moves::shifted),
     call("common_crop", 4000, moves::common_crop),
+    call("disagreement", 6000, counts::disagreement),
+    call("shift", 4000, search::shift),
+    call("align_stack", 4000, search::align_stack),
 ];
 
 fn main() -> ExitCode {

@@ -1,8 +1,11 @@
 -- What the exported functions return and store.
 use Prim.Native.Nat.{ℕ}
+use mathlib.Core.Bool.{Bool, cond}
 use mathlib.Core.List.{List, []}
 use lib.ListN.{length}
+use Rattle.definitions.specs.Shrink.{average, subsample}
 use Rattle.definitions.specs.Bitmap.{rowOf}
+use Rattle.definitions.specs.Align.{Options}
 use Rattle.definitions.specs.Refusals.{Answer, accepted, refused, after, rowChecks}
 
 -- An answer as a status: 0 for an accepted call, else the number of its refusal.
@@ -13,3 +16,7 @@ statusOf (refused n values) = n
 -- Row y of a bitmap, or nothing where the call is refused.
 abbrev pub rowPart : List ℕ → ℕ → ℕ → ℕ → List ℕ
 rowPart words w h y = after (rowChecks w h (length words) y) (rowOf words w y) []
+
+-- The options of a search.
+abbrev pub optionsOf : ℕ → ℕ → Bool → Options
+optionsOf bits tolerance subsampled = record { bits = bits; tolerance = tolerance; shrink = cond subsampled subsample average }

@@ -29,7 +29,7 @@ pub(crate) fn status(o: Outcome) -> u32
     }
 }
 
-fn mode(subsampled: bool) -> Shrink
+pub(crate) fn mode(subsampled: bool) -> Shrink
     ensures { λ r. ⌜ modeOf r ≡ cond subsampled subsample average ⌝ }
 {
     if subsampled {

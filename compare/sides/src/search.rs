@@ -1,0 +1,164 @@
+//! The step of two frames and the stack.
+
+use compare::frames::Frames;
+use compare::inputs::{Random, options, size};
+use compare::trials::Outcome;
+use compare::{original, recount, scenes};
+use naive::align::{self, Scratch, Step};
+use naive::geometry::Shift;
+use naive::gray::Frame;
+use port::search as port;
+
+use crate::agreed;
+use crate::lent::Lent;
+
+/// One too many or too few.
+fn wrong(random: &mut Random, length: usize) -> usize {
+    match random.one_in(2) {
+        true => length + 1,
+        false => length.saturating_sub(1),
+    }
+}
+
+/// The bytes and words of a scratch: what is needed, or some more.
+fn enough(random: &mut Random, need: Scratch) -> Scratch {
+    Scratch {
+        bytes: need.bytes + random.below(3),
+        words: need.words + random.below(3),
+    }
+}
+
+fn lent(random: &mut Random, scratch: Scratch) -> (Lent<u8>, Lent<u64>) {
+    let bytes = Lent::room(random, scratch.bytes);
+    (bytes, Lent::room(random, scratch.words))
+}
+
+pub fn shift(random: &mut Random, _: usize) -> Outcome {
+    let (mut width, height) = size(random, 100);
+    let mut frames = scenes::bracket(random, width, height, 2);
+    let mut options = options(random);
+    let (mut target_width, mut target_height) = (width, height);
+    let need = Scratch::of_step(width, height, options.bits);
+    let mut scratch = enough(random, need);
+    match random.below(24) {
+        0 => options.percentile = 101 + random.below(155) as u8,
+        1 | 2 => {
+            let frame = random.below(2);
+            let length = wrong(random, frames[frame].len());
+            frames[frame].resize(length, 77);
+        }
+        3 => {
+            (target_width, target_height) = size(random, 100);
+            frames[1] = scenes::frame(random, target_width, target_height);
+        }
+        4 => width = random.pick(&[8193, 1 << 32, usize::MAX]),
+        5 => target_height = random.pick(&[8193, 1 << 32, usize::MAX]),
+        6 => scratch.bytes = need.bytes.saturating_sub(1),
+        7 => scratch.words = need.words.saturating_sub(1),
+        _ => {}
+    }
+    let frames = [0, 1].map(|frame| Lent::holding(random, &frames[frame]));
+    let (mut bytes, mut words) = lent(random, scratch);
+    let [mut x, mut y] = [(); 2].map(|()| Lent::room(random, 1));
+    let mut comparisons = Lent::room(random, 1);
+    let input = format!(
+        "{width} by {height} and {target_width} by {target_height}, {options:?}, {scratch:?}"
+    );
+
+    let reference = Frame::new(frames[0].list(), width, height);
+    let target = Frame::new(frames[1].list(), target_width, target_height);
+    let status = port::shift(
+        reference,
+        target,
+        &options,
+        (bytes.list_mut(), words.list_mut()),
+        (x.one_mut(), y.one_mut()),
+        comparisons.one_mut(),
+    );
+    for frame in &frames {
+        frame.is_kept(&input)?;
+    }
+    bytes.used_up_to(need.bytes, &input, status)?;
+    words.used_up_to(need.words, &input, status)?;
+    let (x, y) = (x.after(&input, status)?, y.after(&input, status)?);
+    let written = Step {
+        shift: Shift::new(x[0], y[0]),
+        comparisons: comparisons.after(&input, status)?[0],
+    };
+    agreed(
+        &input,
+        (status, written),
+        align::shift(reference, target, &options, scratch),
+        Some(|| {
+            let levels = recount::levels(width, height, options.bits);
+            Ok(Step {
+                shift: original::shift(reference, target, &options)?,
+                comparisons: 9 * (levels as u64 + 1),
+            })
+        }),
+    )
+}
+
+pub fn align_stack(random: &mut Random, _: usize) -> Outcome {
+    let (count, most_height) = match random.below(12) {
+        0 => (15 + random.below(3), 8),
+        _ => (random.below(7), 60),
+    };
+    let size = size(random, most_height);
+    let reference = match random.one_in(20) {
+        true => random.pick(&[count, count + 1, usize::MAX]),
+        false => random.below(count.max(1)),
+    };
+    let bracket = scenes::bracket(random, size.0, size.1, count);
+    let mut frames = Frames::of_one_size(bracket, size, reference);
+    let mut options = options(random);
+    let need = frames.scratch(options.bits);
+    let mut scratch = enough(random, need);
+    let mut room = 2 * count;
+    match random.below(24) {
+        0..4 if count > 0 => {
+            // One or two frames that lost a row or a column.
+            for _ in 0..2 {
+                let frame = random.below(count);
+                let sides = match random.one_in(2) {
+                    true => &mut frames.widths,
+                    false => &mut frames.heights,
+                };
+                sides[frame] = sides[frame].saturating_sub(1);
+            }
+        }
+        4 if count > 0 => _ = frames.heights.pop(),
+        5 if count > 0 => frames.widths[random.below(count)] = random.pick(&[8193, usize::MAX]),
+        6 => options.percentile = 101 + random.below(155) as u8,
+        7 => {
+            let length = wrong(random, frames.samples.len());
+            frames.samples.resize(length, 77);
+        }
+        8 => room = wrong(random, room),
+        9 => scratch.bytes = need.bytes.saturating_sub(1),
+        10 => scratch.words = need.words.saturating_sub(1),
+        _ => {}
+    }
+    let samples = Lent::holding(random, &frames.samples);
+    let mut shifts = Lent::room(random, room);
+    let (mut bytes, mut words) = lent(random, scratch);
+    let input = format!("{frames}, {options:?}, shifts {shifts}, {scratch:?}");
+
+    let mut stack = frames.stack();
+    stack.samples = samples.list();
+    let status = port::align_stack(
+        stack,
+        &options,
+        shifts.list_mut(),
+        (bytes.list_mut(), words.list_mut()),
+    );
+    samples.is_kept(&input)?;
+    bytes.used_up_to(need.bytes, &input, status)?;
+    words.used_up_to(need.words, &input, status)?;
+    agreed(
+        &input,
+        (status, shifts.after(&input, status)?),
+        align::align_stack(stack, &options, room, scratch),
+        Some(|| original::align_stack(stack, &options)),
+    )
+}
