@@ -13,8 +13,8 @@ use crate::inputs::Input;
 use crate::race::race;
 use crate::{Timed, timed};
 
-const PERCENTILE: u8 = 50;
-const TOLERANCE: u8 = 4;
+pub const PERCENTILE: u8 = 50;
+pub const TOLERANCE: u8 = 4;
 
 pub fn frame(input: &Input) -> Frame<'_> {
     let (width, height) = input.size;

@@ -1,10 +1,12 @@
 //! Times the original and the port in one run on the same inputs and prints a table
 //! for each call.
 
+mod counts;
 mod frames;
 mod inputs;
 mod moves;
 mod race;
+mod search;
 
 use inputs::{Input, Kind, SIZES, Size};
 
@@ -40,12 +42,15 @@ impl Timed {
 }
 
 /// Calls timed on every input.
-const CALLS: [fn(&Input) -> Vec<Timed>; 5] = [
+const CALLS: [fn(&Input) -> Vec<Timed>; 8] = [
     frames::from_rgb,
     frames::shrink2,
     frames::cut_and_bitmaps,
     frames::count_ones,
     moves::shifted,
+    counts::disagreement,
+    search::shift,
+    search::align_stack,
 ];
 
 /// Calls whose time has nothing to do with the input.

@@ -20,6 +20,8 @@ pub const MARK: u8 = 165;
 
 pub const MARK_WORD: u64 = 11936128518282651045;
 
+pub const MARK_COORDINATE: i32 = -1515870811;
+
 fn with_digit(value: u64, digit: u64) -> u64 {
     if value < 1844674407370955161 {
         if digit < 10 {
@@ -283,6 +285,49 @@ pub fn coordinate(numbers: &[u64], i: usize) -> i32 {
         return -2147483648;
     }
     0
+}
+
+// The sizes that stand from number `from` on.
+pub fn sizes(numbers: &[u64], from: usize, out: &mut [usize]) {
+    let mut i: usize = 0;
+    let mut k = from;
+    while i < out.len() {
+        if k >= numbers.len() {
+            return;
+        }
+        out[i] = numbers[k] as usize;
+        i += 1;
+        k += 1;
+    }
+}
+
+// The coordinates are the numbers from `from` on.
+pub fn same_coordinates(numbers: &[u64], from: usize, got: &[i32]) -> bool {
+    let mut i: usize = 0;
+    let mut k = from;
+    while i < got.len() {
+        if k >= numbers.len() {
+            return false;
+        }
+        if coordinate(numbers, k) != got[i] {
+            return false;
+        }
+        i += 1;
+        k += 1;
+    }
+    true
+}
+
+// Every coordinate still has the mark.
+pub fn marked_coordinates(got: &[i32]) -> bool {
+    let mut i: usize = 0;
+    while i < got.len() {
+        if got[i] != MARK_COORDINATE {
+            return false;
+        }
+        i += 1;
+    }
+    true
 }
 
 // The coordinates that stand from number `from` on.

@@ -1,0 +1,101 @@
+//! The step of two frames and the stack, with the original's usual options. Every
+//! frame is the one before it, moved.
+
+use std::hint::black_box;
+
+use mtb_align::{Gray, Shift};
+use naive::align::{Options, Scratch, Stack};
+use naive::gray::Frame;
+use naive::shrink::Shrink;
+use port::search as port;
+
+use crate::frames::{accepted, gray};
+use crate::inputs::Input;
+use crate::race::race;
+use crate::{Timed, timed};
+
+const OPTIONS: Options = Options {
+    bits: 6,
+    tolerance: 4,
+    percentile: 50,
+    shrink: Shrink::Average,
+};
+const BRACKETS: [(&str, usize); 3] = [
+    ("align_stack of 3", 3),
+    ("align_stack of 5", 5),
+    ("align_stack of 9", 9),
+];
+const GOAL: f64 = 2.5;
+
+fn bracket(input: &Input, count: usize) -> Vec<Gray> {
+    let mut frames = vec![gray(input)];
+    while frames.len() < count {
+        let next = frames[frames.len() - 1].shifted(Shift::new(3, -2));
+        frames.push(next);
+    }
+    frames
+}
+
+fn scratch((width, height): (usize, usize)) -> (Vec<u8>, Vec<u64>) {
+    let need = Scratch::of_step(width, height, OPTIONS.bits);
+    (vec![0; need.bytes], vec![0; need.words])
+}
+
+pub fn shift(input: &Input) -> Vec<Timed> {
+    let (width, height) = input.size;
+    let frames = bracket(input, 2);
+    let [reference, target] =
+        [0, 1].map(|frame: usize| Frame::new(frames[frame].as_slice(), width, height));
+    let (mut bytes, mut words) = scratch(input.size);
+    let (mut x, mut y, mut comparisons) = (0, 0, 0);
+    let usual = mtb_align::Options::default();
+    let times = race([
+        &mut || {
+            let shift = mtb_align::shift(black_box(&frames[0]), &frames[1], &usual);
+            _ = black_box(shift);
+        },
+        &mut || {
+            accepted(port::shift(
+                black_box(reference),
+                target,
+                &OPTIONS,
+                (&mut bytes, &mut words),
+                (&mut x, &mut y),
+                &mut comparisons,
+            ));
+        },
+    ]);
+    vec![timed("shift", GOAL, input, times)]
+}
+
+pub fn align_stack(input: &Input) -> Vec<Timed> {
+    let (width, height) = input.size;
+    let (mut bytes, mut words) = scratch(input.size);
+    let usual = mtb_align::Options::default();
+    BRACKETS
+        .into_iter()
+        .map(|(name, count)| {
+            let frames = bracket(input, count);
+            let samples: Vec<u8> = frames.iter().flat_map(Gray::as_slice).copied().collect();
+            let stack = Stack {
+                samples: &samples,
+                widths: &vec![width; count],
+                heights: &vec![height; count],
+                reference: count / 2,
+            };
+            let mut shifts = vec![0; 2 * count];
+            let times = race([
+                &mut || {
+                    let frames = black_box(&frames);
+                    _ = black_box(mtb_align::align_stack(frames, count / 2, &usual));
+                },
+                &mut || {
+                    let scratch = (&mut bytes[..], &mut words[..]);
+                    let stack = black_box(stack);
+                    accepted(port::align_stack(stack, &OPTIONS, &mut shifts, scratch));
+                },
+            ]);
+            timed(name, GOAL, input, times)
+        })
+        .collect()
+}
