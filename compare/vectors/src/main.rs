@@ -1,5 +1,6 @@
-//! Writes the vectors into `data/`, or, with `--check`, makes them in memory and
-//! holds them against the files there.
+//! Writes the vectors into `data/` and into the inputs of the programs that replay
+//! them, or, with `--check`, makes them in memory and holds them against the files
+//! there.
 
 mod bitmaps;
 mod cases;
@@ -44,6 +45,54 @@ const CALLS: Calls = [
     ("report", stacks::report),
 ];
 
+/// The programs that replay vectors, each with its calls in the order of their numbers.
+const REPLAYED: [(&str, &[&str]); 3] = [
+    (
+        "try_frames",
+        &[
+            "from_rgb",
+            "shrink2",
+            "threshold",
+            "compute_bitmaps",
+            "get",
+            "set",
+            "count_ones",
+            "row",
+        ],
+    ),
+    (
+        "try_moves",
+        &[
+            "doubled",
+            "offset",
+            "shifted",
+            "common_crop",
+            "disagreement",
+        ],
+    ),
+    ("try_align", &["pyramid", "level", "shift", "align_stack"]),
+];
+
+/// What the programs read and print, by path below the crates: every line of a call
+/// after the call's number, and how many lines agree.
+fn replayed(files: &BTreeMap<PathBuf, Vec<u8>>) -> BTreeMap<PathBuf, Vec<u8>> {
+    let mut inputs = BTreeMap::new();
+    for (program, calls) in REPLAYED {
+        let (mut input, mut cases) = (String::new(), 0);
+        for (number, call) in (1..).zip(calls) {
+            let lines = &files[&PathBuf::from(format!("{call}.txt"))];
+            for line in str::from_utf8(lines).expect("numbers").lines() {
+                input += &format!("{number} {line}\n");
+                cases += 1;
+            }
+        }
+        let output = format!("{cases} cases agree\n");
+        inputs.insert(Path::new(program).join("stdin"), input.into_bytes());
+        inputs.insert(Path::new(program).join("stdout"), output.into_bytes());
+    }
+    inputs
+}
+
 /// All files by their path below the data folder, and the number of cases in them.
 fn made() -> (BTreeMap<PathBuf, Vec<u8>>, usize) {
     let mut files = BTreeMap::new();
@@ -80,7 +129,6 @@ fn found(folder: &Path) -> io::Result<BTreeMap<PathBuf, Vec<u8>>> {
 }
 
 fn write(folder: &Path, files: &BTreeMap<PathBuf, Vec<u8>>) -> io::Result<()> {
-    fs::create_dir_all(folder.join("stacksteps"))?;
     for (file, bytes) in files {
         fs::write(folder.join(file), bytes)?;
     }
@@ -88,14 +136,23 @@ fn write(folder: &Path, files: &BTreeMap<PathBuf, Vec<u8>>) -> io::Result<()> {
 }
 
 fn run(check: bool) -> io::Result<bool> {
-    let folder = Path::new(env!("CARGO_MANIFEST_DIR")).join("data");
+    let here = Path::new(env!("CARGO_MANIFEST_DIR"));
+    let (folder, crates) = (here.join("data"), here.join("../../crates"));
     let (files, cases) = made();
+    let inputs = replayed(&files);
     if !check {
+        fs::create_dir_all(folder.join("stacksteps"))?;
         write(&folder, &files)?;
+        write(&crates, &inputs)?;
     }
     let found = found(&folder)?;
     let mut differing = BTreeSet::from_iter(files.keys().chain(found.keys()));
     differing.retain(|file| files.get(*file) != found.get(*file));
+    for (file, bytes) in &inputs {
+        if fs::read(crates.join(file))? != *bytes {
+            differing.insert(file);
+        }
+    }
     for file in &differing {
         println!("{} differs from what is made", file.display());
     }
