@@ -126,12 +126,20 @@ fn print_table(call: &str, of_call: &[&Timed]) {
         .collect();
 
     println!();
-    print!("{:24}", format!("{call}, goal {}", of_call[0].goal));
+    let goals = of_call.iter().map(|timed| timed.goal);
+    let goal = match (
+        goals.clone().fold(f64::INFINITY, f64::min),
+        goals.fold(0.0, f64::max),
+    ) {
+        (least, most) if least == most => format!("{least}"),
+        (least, most) => format!("{least} to {most}"),
+    };
+    print!("{:32}", format!("{call}, goal {goal}"));
     for timed in rows[0] {
         print!("{:>33}", timed.kind.name());
     }
     println!();
-    print!("{:24}", "");
+    print!("{:32}", "");
     for _ in rows[0] {
         print!("{:>13}{:>12}{:>8}", "original", "port", "ratio");
     }
@@ -139,7 +147,7 @@ fn print_table(call: &str, of_call: &[&Timed]) {
 
     for row in rows {
         let (width, height) = row[0].size;
-        print!("{:24}", format!("{width}x{height}"));
+        print!("{:32}", format!("{width}x{height}"));
         for timed in row {
             let [original, port] = timed.times.map(nanoseconds);
             let mark = if timed.is_below(timed.goal) { "<" } else { " " };
