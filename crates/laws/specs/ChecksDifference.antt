@@ -17,7 +17,7 @@ use Rattle.laws.specs.Cases.{lt-or-le}
 use Rattle.laws.specs.Checks.{stop, skip, sides-stop, sides-skip, length-stop, length-skip, padded-stop, padded-skip, done}
 use Rattle.laws.specs.Sums.{sum-le, sum-le-one}
 
-bit-few : (words : List ℕ) (w x y : ℕ) → bitAt words w x y ≤ 1
+pub bit-few : (words : List ℕ) (w x y : ℕ) → bitAt words w x y ≤ 1
 unfolding bitAt
 bit-few words w x y = omega (arith, bit-lt (getD words (wordAt w x y) 0) (x % 64))
 

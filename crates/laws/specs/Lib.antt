@@ -37,3 +37,5 @@ pub mod Overlaps
 pub mod ChecksDifference
 pub mod ChecksStack
 pub mod StackWalks
+pub mod ChecksReport
+pub mod Surveys

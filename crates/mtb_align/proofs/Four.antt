@@ -16,7 +16,7 @@ use Rattle.laws.specs.Bitmaps.{IsBitmap}
 use Rattle.laws.specs.Packed.{packed-length, packedThreshold, packedExclusion, threshold-bitmap, exclusion-bitmap, counts-packed}
 use Rattle.laws.specs.Runs.{sets-then}
 use Rattle.laws.specs.Writes.{sets-front, drop-past}
-use Rattle.mtb_align.specs.Search.{mapAt, FourMaps, costIn, costBetween, packedPair}
+use Rattle.mtb_align.specs.Search.{mapAt, FourMaps, TwoPairs, pairCounts, costIn, costBetween, packedPair, pairOf, fourOf}
 
 -- ---- a part of a list
 
@@ -32,39 +32,40 @@ pair-length w h s c tolerance =
     length-append (packedThreshold w h s c tolerance) (packedExclusion w h s c tolerance) ∙ omega arith
 
 module _ (w h tolerance : ℕ) (r t : Exposure) where
-  abbrev pairOf : Exposure → List ℕ
-  pairOf e = packedPair w h (e .samples) (cut (e .samples) (e .percentile)) tolerance
+  abbrev pair : Exposure → List ℕ
+  pair e = pairOf w h tolerance e
 
-  unfoldable pub fourOf : List ℕ
-  fourOf = pairOf r ++ pairOf t
+  abbrev four : List ℕ
+  four = fourOf w h tolerance r t
 
   -- ---- both pairs stored
 
-  pair-words : (e : Exposure) → length (pairOf e) ≡ 2 * bitmapWords w h
+  pair-words : (e : Exposure) → length (pair e) ≡ 2 * bitmapWords w h
+  unfolding pairOf
   pair-words e = pair-length w h (e .samples) (cut (e .samples) (e .percentile)) tolerance
 
-  pub four-length : length fourOf ≡ 4 * bitmapWords w h
-  unfolding fourOf
-  four-length = length-append (pairOf r) (pairOf t) ∙ omega (arith, pair-words r, pair-words t)
+  pub four-length : length four ≡ 4 * bitmapWords w h
+  unfolding fourOf pairOf
+  four-length = length-append (pair r) (pair t) ∙ omega (arith, pair-words r, pair-words t)
 
   pub four-stored : (l : List ℕ) {m new : List ℕ} {c d k : ℕ} → c ≡ cut (r .samples) (r .percentile) → d ≡ cut (t .samples) (t .percentile) → k ≡ 2 * bitmapWords w h
-      → m ≡ sets l 0 (packedPair w h (r .samples) c tolerance) → new ≡ sets m k (packedPair w h (t .samples) d tolerance) → new ≡ sets l 0 fourOf
-  unfolding fourOf
+      → m ≡ sets l 0 (packedPair w h (r .samples) c tolerance) → new ≡ sets m k (packedPair w h (t .samples) d tolerance) → new ≡ sets l 0 four
+  unfolding fourOf pairOf
   four-stored l {m} {new} {c} {d} {k} a b e p q =
-      sets-then l 0 k (pairOf r) (pairOf t) (pair-words r ∙ sym e)
+      sets-then l 0 k (pair r) (pair t) (pair-words r ∙ sym e)
       (p ∙ ap (λ (i : ℕ). sets l 0 (packedPair w h (r .samples) i tolerance)) a)
       (q ∙ ap₂ (λ (i j : ℕ). sets m i (packedPair w h (t .samples) j tolerance)) (omega arith) b)
 
-  module _ (l : List ℕ) (room : 4 * bitmapWords w h ≤ length l) {new : List ℕ} (e : new ≡ sets l 0 fourOf) where
-    pub four-front : (k : ℕ) → k ≡ 4 * bitmapWords w h → take k new ≡ fourOf
+  module _ (l : List ℕ) (room : 4 * bitmapWords w h ≤ length l) {new : List ℕ} (e : new ≡ sets l 0 four) where
+    pub four-front : (k : ℕ) → k ≡ 4 * bitmapWords w h → take k new ≡ four
     four-front k q =
-        ap (take k) (e ∙ sets-front l fourOf (omega (arith, four-length)))
-        ∙ take-at fourOf (drop (length fourOf) l) k (four-length ∙ sym q)
+        ap (take k) (e ∙ sets-front l four (omega (arith, four-length)))
+        ∙ take-at four (drop (length four) l) k (four-length ∙ sym q)
 
     pub four-free : FreeUpTo (4 * bitmapWords w h) l new
     four-free = record {
-      long = ap length e ∙ length-sets l 0 fourOf;
-      past = ap (drop (4 * bitmapWords w h)) e ∙ drop-past l fourOf 0 (4 * bitmapWords w h) (omega (arith, four-length));
+      long = ap length e ∙ length-sets l 0 four;
+      past = ap (drop (4 * bitmapWords w h)) e ∙ drop-past l four 0 (4 * bitmapWords w h) (omega (arith, four-length));
     }
 
   -- ---- each at its place
@@ -81,34 +82,34 @@ module _ (w h tolerance : ℕ) (r t : Exposure) where
   exclusion-words : (e : Exposure) → length (exclusionOf e) ≡ bitmapWords w h
   exclusion-words e = packed-length w h (bitmapsOf w (e .samples) (cut (e .samples) (e .percentile)) tolerance .exclusion)
 
-  first : mapAt fourOf w h 0 ≡ thresholdOf r
-  unfolding fourOf packedPair
+  first : mapAt four w h 0 ≡ thresholdOf r
+  unfolding fourOf pairOf packedPair
   first =
-      part-at [] (thresholdOf r) (exclusionOf r ++ pairOf t) (0 * bitmapWords w h) (bitmapWords w h)
-      (append-assoc (thresholdOf r) (exclusionOf r) (pairOf t)) (omega arith) (threshold-words r)
+      part-at [] (thresholdOf r) (exclusionOf r ++ pair t) (0 * bitmapWords w h) (bitmapWords w h)
+      (append-assoc (thresholdOf r) (exclusionOf r) (pair t)) (omega arith) (threshold-words r)
 
-  second : mapAt fourOf w h 1 ≡ exclusionOf r
-  unfolding fourOf packedPair
+  second : mapAt four w h 1 ≡ exclusionOf r
+  unfolding fourOf pairOf packedPair
   second =
-      part-at (thresholdOf r) (exclusionOf r) (pairOf t) (1 * bitmapWords w h) (bitmapWords w h)
-      (append-assoc (thresholdOf r) (exclusionOf r) (pairOf t)) (omega (arith, threshold-words r)) (exclusion-words r)
+      part-at (thresholdOf r) (exclusionOf r) (pair t) (1 * bitmapWords w h) (bitmapWords w h)
+      (append-assoc (thresholdOf r) (exclusionOf r) (pair t)) (omega (arith, threshold-words r)) (exclusion-words r)
 
-  third : mapAt fourOf w h 2 ≡ thresholdOf t
-  unfolding fourOf packedPair
-  third = part-at (pairOf r) (thresholdOf t) (exclusionOf t) (2 * bitmapWords w h) (bitmapWords w h) refl (pair-words r) (threshold-words t)
+  third : mapAt four w h 2 ≡ thresholdOf t
+  unfolding fourOf pairOf packedPair
+  third = part-at (pair r) (thresholdOf t) (exclusionOf t) (2 * bitmapWords w h) (bitmapWords w h) refl (pair-words r) (threshold-words t)
 
-  fourth : mapAt fourOf w h 3 ≡ exclusionOf t
-  unfolding fourOf packedPair
+  fourth : mapAt four w h 3 ≡ exclusionOf t
+  unfolding fourOf pairOf packedPair
   fourth =
-      part-at (pairOf r ++ thresholdOf t) (exclusionOf t) [] (3 * bitmapWords w h) (bitmapWords w h)
-      (sym (append-assoc (pairOf r) (thresholdOf t) (exclusionOf t)) ∙ ap (λ (m : List ℕ). (pairOf r ++ thresholdOf t) ++ m) (sym (append-nil (exclusionOf t))))
-      (length-append (pairOf r) (thresholdOf t) ∙ omega (arith, pair-words r, threshold-words t))
+      part-at (pair r ++ thresholdOf t) (exclusionOf t) [] (3 * bitmapWords w h) (bitmapWords w h)
+      (sym (append-assoc (pair r) (thresholdOf t) (exclusionOf t)) ∙ ap (λ (m : List ℕ). (pair r ++ thresholdOf t) ++ m) (sym (append-nil (exclusionOf t))))
+      (length-append (pair r) (thresholdOf t) ∙ omega (arith, pair-words r, threshold-words t))
       (exclusion-words t)
 
   is-bitmap : {a b : List ℕ} → a ≡ b → IsBitmap b w h → IsBitmap a w h
   is-bitmap e m = subst (λ (l : List ℕ). IsBitmap l w h) (sym e) m
 
-  pub four-maps : FourMaps fourOf w h
+  four-maps : FourMaps four w h
   four-maps = record {
     reference-threshold = is-bitmap first (threshold-bitmap w h (r .samples) (cut (r .samples) (r .percentile)) tolerance);
     reference-exclusion = is-bitmap second (exclusion-bitmap w h (r .samples) (cut (r .samples) (r .percentile)) tolerance);
@@ -116,8 +117,16 @@ module _ (w h tolerance : ℕ) (r t : Exposure) where
     target-exclusion = is-bitmap fourth (exclusion-bitmap w h (t .samples) (cut (t .samples) (t .percentile)) tolerance);
   }
 
-  pub four-costs : costIn fourOf w h ≡ costBetween w h tolerance r t
+  pub four-pairs : w ≤ 8192 → h ≤ 8192 → TwoPairs four w h
+  four-pairs a b = record { wide = a; high = b; long = four-length; maps = four-maps }
+
+  pub four-counts : (s : Shift) → pairCounts four w h s
+      ≡ counts w h (bitmapsOf w (r .samples) (cut (r .samples) (r .percentile)) tolerance) (bitmapsOf w (t .samples) (cut (t .samples) (t .percentile)) tolerance) s
+  unfolding pairCounts
+  four-counts s =
+      ap₂ (λ (a b : Bitmaps). counts w h a b s) (ap₂ (bitmapsIn w) first second) (ap₂ (bitmapsIn w) third fourth)
+      ∙ counts-packed w h (r .samples) (cut (r .samples) (r .percentile)) (t .samples) (cut (t .samples) (t .percentile)) tolerance s
+
+  pub four-costs : costIn four w h ≡ costBetween w h tolerance r t
   unfolding costIn costBetween
-  four-costs = fun-ext (λ (s : Shift).
-      ap₂ (λ (a b : Bitmaps). counts w h a b s .disagreeing) (ap₂ (bitmapsIn w) first second) (ap₂ (bitmapsIn w) third fourth)
-      ∙ ap (λ (n : Counts). n .disagreeing) (counts-packed w h (r .samples) (cut (r .samples) (r .percentile)) (t .samples) (cut (t .samples) (t .percentile)) tolerance s))
+  four-costs = fun-ext (λ (s : Shift). ap (λ (n : Counts). n .disagreeing) (four-counts s))

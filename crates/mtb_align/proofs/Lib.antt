@@ -9,6 +9,7 @@ pub mod Pairs
 pub mod Pixels
 pub mod Rows
 pub mod Stacked
+pub mod Surveyed
 pub mod Two
 pub mod Walked
 pub mod Within

@@ -1,5 +1,6 @@
 // Levels and pyramids, the search over the nine, the step of two frames, and the stack.
 use super::bitmap::words_per_row;
+use super::difference::Counts;
 use super::difference::count;
 use super::error::Error;
 use super::error::Outcome;
@@ -11,7 +12,6 @@ use super::shrink::halve;
 use super::shrink::halve_within;
 use super::strips::pack_at;
 use super::threshold::cut_of;
-ghost use Rattle.laws.specs.Bitmaps.{IsBitmap};
 ghost use Rattle.laws.specs.Steps.{Within};
 ghost use mathlib.Core.Path.{_≡_};
 ghost use mathlib.Core.Bool.{cond};
@@ -27,11 +27,10 @@ ghost use Rattle.definitions.specs.Bitmap.{bitmapWords};
 ghost use Rattle.definitions.specs.Align.{log2, levels, tried, refine, stepAt, comparisonsAt, costOf, step, comparisons, stackOf, shiftOf, stepBytes, stepWords, stackNeed};
 ghost use Rattle.definitions.specs.Align as stacks;
 ghost use Rattle.definitions.specs.Refusals.{accepted, refused, answer, after, FreeUpTo, Scratch, sideOver, unequal, pairDiffers, pyramidChecks, stepChecks, framesChecks, stackScratchChecks, stackChecks};
-ghost use Rattle.mtb_align.specs.Answers.{outcome, modeOf, shiftIn, steppedIn, stepAnswer, Stepped};
-ghost use Rattle.mtb_align.specs.Nine.{costOfMaps};
+ghost use Rattle.mtb_align.specs.Answers.{outcome, modeOf, shiftIn, countsIn, steppedIn, stepAnswer, Stepped};
 ghost use Rattle.mtb_align.specs.declared.shrink.Shrink.the-variants.{Average, Subsample};
 ghost use Rattle.mtb_align.specs.Levelled.{Levelled};
-ghost use Rattle.mtb_align.specs.Search.{FourMaps, costIn, costBetween, exposureOf, optionsIn};
+ghost use Rattle.mtb_align.specs.Search.{TwoPairs, pairCounts, costIn, costBetween, exposureOf, fourOf, optionsIn};
 ghost use Rattle.mtb_align.specs.Stack.{stackIn, stepBetween, Ready};
 
 // The base-two logarithm, rounded down.
@@ -271,25 +270,36 @@ fn better(best: Found, shift: Shift, error: u64) -> Found
     best
 }
 
-// The best of the nine offsets within a pixel of `around`, over the threshold and exclusion bitmaps of a reference and a target.
-fn best_of_nine(
-    rt: &[u64],
-    re: &[u64],
-    st: &[u64],
-    se: &[u64],
-    width: usize,
-    height: usize,
-    around: Shift,
-) -> Step
-    requires { ⌜ (width ≤ 8192) × (height ≤ 8192) × Within 65536 (shiftIn around) ⌝ }
-    requires { ⌜ IsBitmap (now rt) width height × IsBitmap (now re) width height × IsBitmap (now st) width height × IsBitmap (now se) width height ⌝ }
+// Both counts at a shift of two pairs that stand one after another.
+pub(crate) fn counts_at(words: &[u64], width: usize, height: usize, shift: Shift) -> Counts
+    requires { ⌜ TwoPairs (now words) width height ⌝ }
+    ensures { λ r. ⌜ countsIn r ≡ pairCounts (now (words .entry)) width height (shiftIn shift) ⌝ }
+{
+    let n = height * words_per_row(width);
+    let second = 2 * n;
+    let third = 3 * n;
+    let end = 4 * n;
+    count(
+        &words[0..n],
+        &words[n..second],
+        &words[second..third],
+        &words[third..end],
+        width,
+        height,
+        shift,
+    )
+}
+
+// The best of the nine offsets within a pixel of `around`, over two pairs of bitmaps.
+fn refine(words: &[u64], width: usize, height: usize, around: Shift) -> Step
+    requires { ⌜ TwoPairs (now words) width height × Within 65536 (shiftIn around) ⌝ }
     ensures { λ r. ⌜
-        (shiftIn (r .shift) ≡ refine (costOfMaps width height (now (rt .entry)) (now (re .entry)) (now (st .entry)) (now (se .entry))) (shiftIn around))
-        × (r .comparisons ≡ length (tried (costOfMaps width height (now (rt .entry)) (now (re .entry)) (now (st .entry)) (now (se .entry))) (shiftIn around)))
+        (shiftIn (r .shift) ≡ refine (costIn (now (words .entry)) width height) (shiftIn around))
+        × (r .comparisons ≡ length (tried (costIn (now (words .entry)) width height) (shiftIn around)))
         ⌝ }
 {
     let centre = near(around, CANDIDATES[0]);
-    let counts = count(rt, re, st, se, width, height, centre);
+    let counts = counts_at(words, width, height, centre);
     let mut best = Found {
         shift: centre,
         error: counts.disagreeing,
@@ -297,7 +307,7 @@ fn best_of_nine(
     let mut made: u64 = 1;
     for i in 1..9 {
         let candidate = near(around, CANDIDATES[i]);
-        let counts = count(rt, re, st, se, width, height, candidate);
+        let counts = counts_at(words, width, height, candidate);
         best = better(best, candidate, counts.disagreeing);
         made += 1;
     }
@@ -308,27 +318,43 @@ fn best_of_nine(
     }
 }
 
-// The best of the nine offsets within a pixel of `around`, over four bitmaps one after another.
-fn refine(words: &[u64], width: usize, height: usize, around: Shift) -> Step
-    requires { ⌜ (width ≤ 8192) × (height ≤ 8192) × (length (now words) ≡ 4 * bitmapWords width height) × FourMaps (now words) width height × Within 65536 (shiftIn around) ⌝ }
-    ensures { λ r. ⌜
-        (shiftIn (r .shift) ≡ refine (costIn (now (words .entry)) width height) (shiftIn around))
-        × (r .comparisons ≡ length (tried (costIn (now (words .entry)) width height) (shiftIn around)))
+// Both frames cut and packed: the reference's pair of bitmaps, then the target's.
+pub(crate) fn pack_both(
+    reference: &[u8],
+    target: &[u8],
+    width: usize,
+    height: usize,
+    first: u8,
+    second: u8,
+    tolerance: u8,
+    words: &mut [u64],
+)
+    requires { ⌜
+        (width ≤ 8192) × (height ≤ 8192) × (first ≤ 100) × (second ≤ 100)
+        × (length (now reference) ≡ width * height) × (length (now target) ≡ width * height)
+        × (4 * bitmapWords width height ≤ length (now words))
         ⌝ }
+    ensures { λ _. ⌜ now (words .exit) ≡ sets (now (words .entry)) 0 (fourOf width height tolerance (exposureOf (now (reference .entry)) first) (exposureOf (now (target .entry)) second)) ⌝ }
 {
     let n = height * words_per_row(width);
-    let second = 2 * n;
-    let third = 3 * n;
-    let end = 4 * n;
-    best_of_nine(
-        &words[0..n],
-        &words[n..second],
-        &words[second..third],
-        &words[third..end],
+    pack_at(
+        reference,
         width,
         height,
-        around,
-    )
+        cut_of(reference, width, height, first),
+        tolerance,
+        words,
+        0,
+    );
+    pack_at(
+        target,
+        width,
+        height,
+        cut_of(target, width, height, second),
+        tolerance,
+        words,
+        2 * n,
+    );
 }
 
 // One level: both frames cut and packed, and the best of the nine around a shift.
@@ -356,23 +382,15 @@ fn level_step(
     ensures { λ _. ⌜ FreeUpTo (4 * bitmapWords width height) (now (words .entry)) (now (words .exit)) ⌝ }
 {
     let n = height * words_per_row(width);
-    pack_at(
+    pack_both(
         reference,
-        width,
-        height,
-        cut_of(reference, width, height, first),
-        tolerance,
-        words,
-        0,
-    );
-    pack_at(
         target,
         width,
         height,
-        cut_of(target, width, height, second),
+        first,
+        second,
         tolerance,
         words,
-        2 * n,
     );
     refine(&words[0..4 * n], width, height, around)
 }
@@ -979,7 +997,7 @@ fn walk_above(
 }
 
 // The shifts of n frames: those below the reference, the reference's own, and those above it.
-fn walk(
+pub(crate) fn walk(
     samples: &[u8],
     width: usize,
     height: usize,

@@ -25,7 +25,7 @@ pub enum Error {
     Padding,
     Reach,
     // How many records are needed.
-    Records(u64),
+    Records(usize),
     Outside,
     Coordinate,
 }

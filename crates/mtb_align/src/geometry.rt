@@ -146,7 +146,7 @@ pub(crate) fn source(destination: usize, shift: i32, extent: usize) -> Place
 }
 
 // n zeros from `at` on.
-fn clear_run(out: &mut [u8], at: usize, n: usize)
+pub(crate) fn clear_run(out: &mut [u8], at: usize, n: usize)
     requires { ⌜ at + n ≤ length (now out) ⌝ }
     ensures { λ _. ⌜ now (out .exit) ≡ sets (now (out .entry)) at (replicate n 0) ⌝ }
 {
@@ -156,7 +156,7 @@ fn clear_run(out: &mut [u8], at: usize, n: usize)
 }
 
 // n samples from `from` on, written from `at` on.
-fn copy_run(samples: &[u8], from: usize, out: &mut [u8], at: usize, n: usize)
+pub(crate) fn copy_run(samples: &[u8], from: usize, out: &mut [u8], at: usize, n: usize)
     requires { ⌜ (from + n ≤ length (now samples)) × (at + n ≤ length (now out)) ⌝ }
     ensures { λ _. ⌜ now (out .exit) ≡ sets (now (out .entry)) at (build n (λ k. getD (now (samples .entry)) (from + k) 0)) ⌝ }
 {

@@ -5,15 +5,14 @@ use Prim.Native.Nat.{ℕ, _-_, _*_, _≤_}
 use borrow.Author.Needs.{needs}
 use native.Mathlib.Omega.{arith}
 use lib.ListN.{length, take}
-use lib.Seq.{sets}
 use Rattle.definitions.specs.Geometry.{Shift}
 use Rattle.definitions.specs.Bitmap.{bitmapWords}
 use Rattle.definitions.specs.Align.{refine, tried}
 use Rattle.definitions.specs.Refusals.{FreeUpTo}
 use Rattle.laws.specs.Bitmaps.{bitmap-most}
 use Rattle.mtb_align.specs.Answers.{shiftIn}
-use Rattle.mtb_align.specs.Search.{FourMaps, costIn, exposureOf}
-use Rattle.mtb_align.proofs.Four.{fourOf, four-length, four-stored, four-front, four-free, four-maps, four-costs}
+use Rattle.mtb_align.specs.Search.{TwoPairs, costIn, exposureOf, fourOf}
+use Rattle.mtb_align.proofs.Four.{four-front, four-free, four-pairs, four-costs}
 use Rattle.mtb_align.proofs.align.level_step.Statement.{statement}
 use Rattle.mtb_align.proofs.align.level_step.Tie as tie
 
@@ -26,39 +25,28 @@ few c =
     let s = c .before .before .before .before in
     omega (arith, words-are c, bitmap-most (s .args .width) (s .args .height) (s .pre .0) (s .pre .1))
 
--- the four bitmaps
-abbrev four : tie.Start → List ℕ
-four s =
-    let x = s .args in
-    fourOf (x .width) (x .height) (x .tolerance) (exposureOf (x .reference .now) (x .first)) (exposureOf (x .target .now) (x .second))
-
 -- ---- once both frames are packed
 
-abbrev counted : tie.After-pack-at2 → tie.After-words-per-row
-counted c = c .before .before .before .before .before .before .before .before
+abbrev counted : tie.After-pack-both → tie.After-words-per-row
+counted c = c .before .before
 
-abbrev start : tie.After-pack-at2 → tie.Start
+abbrev start : tie.After-pack-both → tie.Start
 start c = counted c .before .before .before .before
 
-abbrev words : tie.After-pack-at2 → List ℕ
-words c = c .pack-at2 .last .1 .1 .1 .1 .1 .0
+abbrev words : tie.After-pack-both → List ℕ
+words c = c .pack-both .last .1 .1 .1 .1 .1 .1 .1 .0
 
 -- how many the search is handed
-abbrev handed : tie.After-pack-at2 → ℕ
+abbrev handed : tie.After-pack-both → ℕ
 handed c = 4 * (start c .args .height * counted c .words-per-row .result) - 0
 
-stored : (c : tie.After-pack-at2) → words c ≡ sets (start c .args .words .now) 0 (four (start c))
-stored c =
-    let x = start c .args in
-    four-stored (x .width) (x .height) (x .tolerance) (exposureOf (x .reference .now) (x .first)) (exposureOf (x .target .now) (x .second)) (x .words .now)
-    (c .before .before .before .before .before .before .before .cut-of .ensures) (c .before .before .cut-of2 .ensures) (omega (arith, words-are (counted c)))
-    (c .before .before .before .before .before .pack-at .ensures) (c .pack-at2 .ensures)
+free : (c : tie.After-pack-both) → let x = start c .args in FreeUpTo (4 * bitmapWords (x .width) (x .height)) (x .words .now) (words c)
+free c = four-free _ _ _ _ _ (start c .args .words .now) (start c .pre .6) (c .pack-both .ensures)
 
-free : (c : tie.After-pack-at2) → let x = start c .args in FreeUpTo (4 * bitmapWords (x .width) (x .height)) (x .words .now) (words c)
-free c = four-free _ _ _ _ _ (start c .args .words .now) (start c .pre .6) (stored c)
-
-front : (c : tie.After-pack-at2) → take (handed c) (words c) ≡ four (start c)
-front c = four-front _ _ _ _ _ (start c .args .words .now) (start c .pre .6) (stored c) (handed c) (omega (arith, words-are (counted c)))
+front : (c : tie.After-pack-both)
+    → let x = start c .args in
+    take (handed c) (words c) ≡ fourOf (x .width) (x .height) (x .tolerance) (exposureOf (x .reference .now) (x .first)) (exposureOf (x .target .now) (x .second))
+front c = four-front _ _ _ _ _ (start c .args .words .now) (start c .pre .6) (c .pack-both .ensures) (handed c) (omega (arith, words-are (counted c)))
 
 words-per-row-requires : tie.Need-words-per-row-requires
 words-per-row-requires c κs = search needs
@@ -66,26 +54,11 @@ words-per-row-requires c κs = search needs
 mul-n : tie.Need-mul-n
 mul-n c = omega (arith, few c)
 
-cut-of-requires : tie.Need-cut-of-requires
-cut-of-requires c κs = search needs
-
-pack-at-requires : tie.Need-pack-at-requires
-pack-at-requires c κs = search needs
-
-cut-of-requires-2 : tie.Need-cut-of-requires-2
-cut-of-requires-2 c κs = search needs
-
-mul-pack-at : tie.Need-mul-pack-at
-mul-pack-at c = omega (arith, few (c .before .before .before .before .before .before .before))
-
-pack-at-requires-2 : tie.Need-pack-at-requires-2
-pack-at-requires-2 c κs =
-    let w = c .before .before .before .before .before .before .before in
-    let x = w .before .before .before .before in
-    (x .pre .0, x .pre .1, x .pre .5, omega (arith, words-are w, x .pre .6))
+pack-both-requires : tie.Need-pack-both-requires
+pack-both-requires c κs = search needs
 
 mul-refine : tie.Need-mul-refine
-mul-refine c = omega (arith, few (c .before .before .before .before .before .before .before .before .before .before))
+mul-refine c = omega (arith, few (counted (c .before .before)))
 
 sub-refine : tie.Need-sub-refine
 sub-refine c = search needs
@@ -102,8 +75,7 @@ refine-requires : tie.Need-refine-requires
 refine-requires c κs =
     let p = c .before .before .before .before in
     let x = start p in
-    let e = front p in
-    (x .pre .0, x .pre .1, ap length e ∙ four-length _ _ _ _ _, subst (λ (l : List ℕ). FourMaps l (x .args .width) (x .args .height)) (sym e) (four-maps _ _ _ _ _), x .pre .7)
+    (subst (λ (l : List ℕ). TwoPairs l (x .args .width) (x .args .height)) (sym (front p)) (four-pairs _ _ _ _ _ (x .pre .0) (x .pre .1)), x .pre .7)
 
 same-length : tie.Need-same-length
 same-length c = search needs
@@ -126,11 +98,7 @@ level-step-spec =
     (tie.spec
     words-per-row-requires
     mul-n
-    cut-of-requires
-    pack-at-requires
-    cut-of-requires-2
-    mul-pack-at
-    pack-at-requires-2
+    pack-both-requires
     mul-refine
     sub-refine
     part-refine-start

@@ -1,0 +1,492 @@
+-- A survey row by row: the rivals of one row of the window, as a loop finds them and writes their records. Assumes nothing.
+use mathlib.Core.Path.{_≡_, refl, sym, ap, ap₂, _∙_, subst}
+use mathlib.Core.Bool.{Bool, true, false, cond, _&&_}
+use mathlib.Core.List.{List, [], _∷_, _++_, map, map-append, append-assoc, append-nil}
+use mathlib.Core.Logic.{⊎-elim}
+use Prim.Native.Nat.{ℕ, zero, suc, _+_, _-_, _*_, _<_, _≤_}
+use native.Mathlib.Nat.{add-zero, eq-or-lt-of-le, mul-le-mul, mul-le-mul-right}
+use native.Mathlib.Numerals.{add-one}
+use native.Mathlib.Omega.{arith}
+use lib.Dec.{leb}
+use lib.IntN.{ℤ, pos, negsuc, _+ℤ_, _-ℤ_}
+use lib.ListN.{length, getD, take, drop, length-append, length-map, length-drop}
+use lib.Seq.{sets, length-sets, getD-take, getD-drop, length-take-le, take-at}
+use Rattle.definitions.specs.Build.{build, joined, image, keepIf}
+use Rattle.definitions.specs.Geometry.{Shift, Source, inside, outside, source, atSource, atSources, origin, offset, listed, ahead, behind}
+use Rattle.definitions.specs.Difference.{Counts, bitmapsIn, comparedBit, disagreeingBit, overlap, counts}
+use Rattle.definitions.specs.Align.{Stack, neighbour, stepOf, shiftOf}
+use Rattle.definitions.specs.Report.{Terms, frameCounts, limitOf, rivals, window, isRival, survey, Record, bytes32, twosComplement, recordBytes, recordsBytes}
+use Rattle.definitions.specs.Sum.{sum}
+use Rattle.laws.specs.Members.{joined-sum}
+use Rattle.laws.specs.Sums.{sum-split, sum-first, sum-le, sum-le-one}
+use Rattle.laws.specs.ChecksDifference.{bit-few}
+use Rattle.laws.specs.Lists.{build-none, build-more, build-is, joined-none, joined-more, joined-at}
+use Rattle.laws.specs.Sizes.{row-inside}
+use Rattle.laws.specs.Writes.{sets-append, sets-front}
+use Rattle.laws.specs.Whole.{add, minus, equal}
+use Rattle.laws.specs.Cases.{lt-or-le, eq-or-ne}
+use Rattle.laws.specs.ChecksStack.{neighbour-below, neighbour-above}
+use Rattle.laws.specs.StackWalks.{shift-below, shift-above}
+use borrow.Author.Tests.{le-ltb}
+use Rattle.laws.specs.Records.{rivals-none, rivals-survey, bytes-length}
+
+-- ---- both counts are at most the pixels
+
+-- a bit at the sources of a place
+at-source-few : (a : Source) (f : ℕ → ℕ) → ((u : ℕ) → f u ≤ 1) → atSource a f ≤ 1
+at-source-few (inside u) f few = few u
+at-source-few outside f few = omega arith
+
+at-sources-few : (w h : ℕ) (s : Shift) (x y : ℕ) (f : ℕ → ℕ → ℕ) → ((u v : ℕ) → f u v ≤ 1) → atSources w h s x y f ≤ 1
+unfolding atSources
+at-sources-few w h s x y f few = at-source-few (source x (s .x) w) _ (λ u. at-source-few (source y (s .y) h) _ (few u))
+
+overlap-few : (w h : ℕ) (s : Shift) (f : ℕ → ℕ → ℕ → ℕ → ℕ) → ((x y u v : ℕ) → f x y u v ≤ 1) → overlap w h s f ≤ h * w
+unfolding overlap
+overlap-few w h s f few = sum-le h w _ (λ y _. sum-le-one w _ (λ x _. at-sources-few w h s x y (f x y) (few x y)))
+
+pub counts-few : (w h : ℕ) (a b c d : List ℕ) (s : Shift) → let n = counts w h (bitmapsIn w a b) (bitmapsIn w c d) s in (n .disagreeing ≤ h * w) × (n .compared ≤ h * w)
+unfolding counts bitmapsIn comparedBit disagreeingBit
+counts-few w h a b c d s =
+    let r = bitmapsIn w a b in
+    let t = bitmapsIn w c d in
+    let few : (x y u v : ℕ) → comparedBit r t x y u v ≤ 1 = λ x y u v. omega (arith, bit-few b w x y) in
+    (overlap-few w h s (disagreeingBit r t) (λ x y u v. omega (arith, few x y u v)), overlap-few w h s (comparedBit r t) few)
+
+-- ---- what passes a test
+
+module _ {A : Type 0} (test : A → Bool) where
+  pub keep-append : (l m : List A) → keepIf test (l ++ m) ≡ keepIf test l ++ keepIf test m
+  unfolding keepIf
+  keep-append [] m = refl
+  keep-append (a ∷ l) m = on (test a) (keep-append l m)
+    where
+      on : (t : Bool) → keepIf test (l ++ m) ≡ keepIf test l ++ keepIf test m
+          → cond t (a ∷ keepIf test (l ++ m)) (keepIf test (l ++ m)) ≡ cond t (a ∷ keepIf test l) (keepIf test l) ++ keepIf test m
+      on true ih = ap (λ (k : List A). a ∷ k) ih
+      on false ih = ih
+
+  pub keep-joined : (n : ℕ) (r : ℕ → List A) → keepIf test (joined n r) ≡ joined n (λ (i : ℕ). keepIf test (r i))
+  unfolding keepIf joined
+  keep-joined zero r = refl
+  keep-joined (suc n) r = keep-append (joined n r) (r n) ∙ ap (λ (k : List A). k ++ keepIf test (r n)) (keep-joined n r)
+
+  -- one more of a list by index
+  pub keep-none : (f : ℕ → A) → keepIf test (build 0 f) ≡ []
+  unfolding keepIf
+  keep-none f = ap (keepIf test) (build-none f)
+
+  pub keep-more : (n : ℕ) (f : ℕ → A) → keepIf test (build (n + 1) f) ≡ keepIf test (build n f) ++ cond (test (f n)) (f n ∷ []) []
+  unfolding keepIf
+  keep-more n f = ap (keepIf test) (build-more n f) ∙ keep-append (build n f) (f n ∷ [])
+
+  -- as many more as pass
+  pub keep-count : (n : ℕ) (f : ℕ → A) {m k : ℕ} → m ≡ length (keepIf test (build n f)) → k ≡ m + cond (test (f n)) 1 0 → k ≡ length (keepIf test (build (n + 1) f))
+  keep-count n f {m} {k} e q =
+      q ∙ ap₂ _+_ e (one (test (f n))) ∙ sym (ap length (keep-more n f) ∙ length-append (keepIf test (build n f)) (cond (test (f n)) (f n ∷ []) []))
+    where
+      one : (t : Bool) → cond t 1 0 ≡ length (cond t (f n ∷ []) [])
+      one true = refl
+      one false = refl
+
+  -- the first of a list by index are no more than all
+  keep-further : (m d : ℕ) (f : ℕ → A) → length (keepIf test (build m f)) ≤ length (keepIf test (build (m + d) f))
+  keep-further m zero f = let z : m ≡ m + 0 = omega arith in omega (arith, ap (λ (k : ℕ). length (keepIf test (build k f))) z)
+  keep-further m (suc d) f =
+      let z : m + d + 1 ≡ m + suc d = omega arith in
+      omega (
+        arith,
+        ap (λ (i : ℕ). length (keepIf test (build i f))) z,
+        ap length (keep-more (m + d) f),
+        length-append (keepIf test (build (m + d) f)) (cond (test (f (m + d))) (f (m + d) ∷ []) []),
+        keep-further m d f,
+      )
+
+  pub keep-less : (m n : ℕ) (f : ℕ → A) → m ≤ n → length (keepIf test (build m f)) ≤ length (keepIf test (build n f))
+  keep-less m n f h =
+      let z : m + (n - m) ≡ n = omega arith in
+      omega (arith, keep-further m (n - m) f, ap (λ (k : ℕ). length (keepIf test (build k f))) z)
+
+  -- no more than there are
+  pub keep-few : (n : ℕ) (f : ℕ → A) → length (keepIf test (build n f)) ≤ n
+  unfolding build keepIf
+  keep-few zero f = omega arith
+  keep-few (suc n) f = on (test (f n)) (keep-few n f) (length-append (keepIf test (build n f)) (cond (test (f n)) (f n ∷ []) [])) (ap length (keep-append (build n f) (f n ∷ [])))
+    where
+      on : (t : Bool) → length (keepIf test (build n f)) ≤ n → length (keepIf test (build n f) ++ cond t (f n ∷ []) []) ≡ length (keepIf test (build n f)) + length (cond t (f n ∷ []) [])
+          → length (keepIf test (build n f ++ (f n ∷ []))) ≡ length (keepIf test (build n f) ++ cond t (f n ∷ []) []) → length (keepIf test (build n f ++ (f n ∷ []))) ≤ suc n
+      on true h p q = omega arith
+      on false h p q = omega arith
+
+-- the first of a sum and the next are no more than all
+pub sum-part : (n j : ℕ) (f : ℕ → ℕ) → j < n → sum j f + f j ≤ sum n f
+sum-part n j f h =
+    let e : n ≡ j + (n - j) = omega arith in
+    let d : n - j ≡ suc (n - suc j) = omega arith in
+    omega (
+      arith,
+      ap (λ (k : ℕ). sum k f) e,
+      sum-split j (n - j) f,
+      ap (λ (k : ℕ). sum k (λ (i : ℕ). f (j + i))) d,
+      sum-first (n - suc j) (λ (i : ℕ). f (j + i)),
+      ap f (add-zero j),
+    )
+
+-- nor are the first rows and the next longer than all
+pub joined-part : {A : Type 0} (n j : ℕ) (r : ℕ → List A) → j < n → length (joined j r) + length (r j) ≤ length (joined n r)
+joined-part n j r h = omega (arith, joined-sum n r, joined-sum j r, sum-part n j (λ (i : ℕ). length (r i)) h)
+
+-- ---- the rows of a window
+
+-- The shift in column i of row j of the window around a centre.
+unfoldable pub windowAt : Shift → ℕ → ℕ → ℕ → Shift
+windowAt c reach j i = record { x = (c .x -ℤ pos reach) +ℤ pos i; y = (c .y -ℤ pos reach) +ℤ pos j }
+
+-- Row j, from the left.
+unfoldable pub windowRow : Shift → ℕ → ℕ → List Shift
+windowRow c reach j = build (suc (2 * reach)) (windowAt c reach j)
+
+-- The rivals in it.
+unfoldable pub rowRivals : (Shift → Counts) → Shift → ℕ → ℕ → ℕ → ℕ → List Shift
+rowRivals at c reach floor limit j = keepIf (isRival at floor limit) (windowRow c reach j)
+
+pub survey-rows : (at : Shift → Counts) (c : Shift) (reach floor limit : ℕ) → survey at c reach floor limit ≡ joined (suc (2 * reach)) (rowRivals at c reach floor limit)
+unfolding survey window windowRow rowRivals windowAt
+survey-rows at c reach floor limit = keep-joined (isRival at floor limit) (suc (2 * reach)) (windowRow c reach)
+
+-- a row has no more than its columns
+pub row-few : (at : Shift → Counts) (c : Shift) (reach floor limit j : ℕ) → length (rowRivals at c reach floor limit j) ≤ suc (2 * reach)
+unfolding rowRivals windowRow
+row-few at c reach floor limit j = keep-few (isRival at floor limit) (suc (2 * reach)) (windowAt c reach j)
+
+-- the test by the counts at the shift
+pub rival-by-counts : (at : Shift → Counts) (floor limit : ℕ) {c : Counts} (s : Shift) → c ≡ at s → isRival (λ (x : Shift). c) floor limit origin ≡ isRival at floor limit s
+unfolding isRival
+rival-by-counts at floor limit s e = ap (λ (n : Counts). leb floor (n .compared) && leb (n .disagreeing) limit) e
+
+-- ---- how many there are, by a loop over the columns of a row and one over the rows
+
+module _ (at : Shift → Counts) (centre : Shift) (reach floor limit : ℕ) where
+  -- in the first i columns of row j
+  unfoldable pub rivalsUpTo : ℕ → ℕ → List Shift
+  rivalsUpTo j i = keepIf (isRival at floor limit) (build i (windowAt centre reach j))
+
+  pub column-none : (j : ℕ) → 0 ≡ length (rivalsUpTo j 0)
+  unfolding rivalsUpTo
+  column-none j = sym (ap length (keep-none (isRival at floor limit) (windowAt centre reach j)))
+
+  pub column-few : (j i : ℕ) → length (rivalsUpTo j i) ≤ i
+  unfolding rivalsUpTo
+  column-few j i = keep-few (isRival at floor limit) i (windowAt centre reach j)
+
+  pub column-more : (j i : ℕ) {m k d : ℕ} {c : Counts} {s : Shift} → m ≡ length (rivalsUpTo j i) → s ≡ windowAt centre reach j i → c ≡ at s
+      → d ≡ cond (isRival (λ (x : Shift). c) floor limit origin) 1 0 → k ≡ m + d → k ≡ length (rivalsUpTo j (i + 1))
+  unfolding rivalsUpTo
+  column-more j i {m} {k} {d} {c} {s} p q e t u =
+      keep-count (isRival at floor limit) i (windowAt centre reach j) p
+      (u ∙ ap (λ (n : ℕ). m + n) (t ∙ ap (λ (b : Bool). cond {A = ℕ} b 1 0) (rival-by-counts at floor limit s e ∙ ap (isRival at floor limit) q)))
+
+  pub column-all : (j : ℕ) {i m : ℕ} → i ≡ suc (2 * reach) → m ≡ length (rivalsUpTo j i) → m ≡ length (rowRivals at centre reach floor limit j)
+  unfolding rowRivals windowRow rivalsUpTo
+  column-all j e p = p ∙ ap (λ (n : ℕ). length (rivalsUpTo j n)) e
+
+  pub row-more : (j : ℕ) {m d k : ℕ} → m ≡ length (joined j (rowRivals at centre reach floor limit)) → d ≡ length (rowRivals at centre reach floor limit j) → k ≡ m + d
+      → k ≡ length (joined (j + 1) (rowRivals at centre reach floor limit))
+  row-more j p q u =
+      u ∙ ap₂ _+_ p q
+      ∙ sym (ap length (joined-more j (rowRivals at centre reach floor limit)) ∙ length-append (joined j (rowRivals at centre reach floor limit)) (rowRivals at centre reach floor limit j))
+
+  pub row-all : {j m : ℕ} → j ≡ suc (2 * reach) → m ≡ length (joined j (rowRivals at centre reach floor limit)) → m ≡ length (survey at centre reach floor limit)
+  row-all e p = p ∙ ap (λ (n : ℕ). length (joined n (rowRivals at centre reach floor limit))) e ∙ sym (ap length (survey-rows at centre reach floor limit))
+
+-- ---- a record's bytes
+
+-- two numbers, one after the other
+number-then : (l rest : List ℕ) (at n : ℕ) → sets (sets l at (bytes32 n)) (at + 4) rest ≡ sets l at (bytes32 n ++ rest)
+unfolding bytes32
+number-then l rest at n = sym (sets-append l at (bytes32 n) rest)
+
+-- the five of a record
+pub record-stored : (l : List ℕ) (at : ℕ) (e : Record) {a b c d new : List ℕ} → a ≡ sets l at (bytes32 (e .frame)) → b ≡ sets a (at + 4) (bytes32 (twosComplement (e .shift .x)))
+    → c ≡ sets b (at + 8) (bytes32 (twosComplement (e .shift .y))) → d ≡ sets c (at + 12) (bytes32 (e .counts .disagreeing)) → new ≡ sets d (at + 16) (bytes32 (e .counts .compared))
+    → new ≡ sets l at (recordBytes e)
+unfolding recordBytes bytes32
+record-stored l at e {a} {b} {c} {d} {new} p q r s t =
+    let eight : at + 8 ≡ at + 4 + 4 = omega arith in
+    let twelve : at + 12 ≡ at + 8 + 4 = omega arith in
+    let sixteen : at + 16 ≡ at + 12 + 4 = omega arith in
+    let last = bytes32 (e .counts .compared) in
+    t
+    ∙ ap₂ (λ (x : List ℕ) (i : ℕ). sets x i last) s sixteen
+    ∙ number-then c last (at + 12) (e .counts .disagreeing)
+    ∙ ap₂ (λ (x : List ℕ) (i : ℕ). sets x i (bytes32 (e .counts .disagreeing) ++ last)) r twelve
+    ∙ number-then b (bytes32 (e .counts .disagreeing) ++ last) (at + 8) (twosComplement (e .shift .y))
+    ∙ ap₂ (λ (x : List ℕ) (i : ℕ). sets x i (bytes32 (twosComplement (e .shift .y)) ++ bytes32 (e .counts .disagreeing) ++ last)) q eight
+    ∙ number-then a (bytes32 (twosComplement (e .shift .y)) ++ bytes32 (e .counts .disagreeing) ++ last) (at + 4) (twosComplement (e .shift .x))
+    ∙ ap (λ (x : List ℕ). sets x (at + 4) (bytes32 (twosComplement (e .shift .x)) ++ bytes32 (twosComplement (e .shift .y)) ++ bytes32 (e .counts .disagreeing) ++ last)) p
+    ∙ number-then l (bytes32 (twosComplement (e .shift .x)) ++ bytes32 (twosComplement (e .shift .y)) ++ bytes32 (e .counts .disagreeing) ++ last) at (e .frame)
+
+-- a coordinate in 32 bits by its two parts
+pub complement-below : (z : ℤ) → 0 < behind z → twosComplement z ≡ 4294967296 - behind z
+unfolding twosComplement
+complement-below (pos n) h = omega arith
+complement-below (negsuc n) h = omega arith
+
+pub complement-not-below : (z : ℤ) → behind z ≤ 0 → twosComplement z ≡ ahead z
+unfolding twosComplement
+complement-not-below (pos n) h = refl
+complement-not-below (negsuc n) h = omega arith
+
+-- ---- their records
+
+-- The record of a frame that names a shift, with the counts there.
+abbrev pub recordOf : (Shift → Counts) → ℕ → Shift → Record
+recordOf at k s = record { frame = k; shift = s; counts = at s }
+
+pub bytes-append : (l m : List Record) → recordsBytes (l ++ m) ≡ recordsBytes l ++ recordsBytes m
+unfolding recordsBytes
+bytes-append [] m = refl
+bytes-append (e ∷ l) m = ap (λ (k : List ℕ). recordBytes e ++ k) (bytes-append l m) ∙ sym (append-assoc (recordBytes e) (recordsBytes l) (recordsBytes m))
+
+-- The bytes of the records that name some shifts.
+unfoldable pub bytesOf : (Shift → Counts) → ℕ → List Shift → List ℕ
+bytesOf at k l = recordsBytes (map (recordOf at k) l)
+
+pub bytes-of-append : (at : Shift → Counts) (k : ℕ) (l m : List Shift) → bytesOf at k (l ++ m) ≡ bytesOf at k l ++ bytesOf at k m
+unfolding bytesOf
+bytes-of-append at k l m = ap recordsBytes (map-append (recordOf at k) l m) ∙ bytes-append (map (recordOf at k) l) (map (recordOf at k) m)
+
+pub bytes-of-length : (at : Shift → Counts) (k : ℕ) (l : List Shift) → length (bytesOf at k l) ≡ 20 * length l
+unfolding bytesOf
+bytes-of-length at k l = bytes-length (map (recordOf at k) l) ∙ ap (λ (n : ℕ). 20 * n) (length-map l (recordOf at k))
+
+-- ---- records as they are written, some shifts after others
+
+module _ (at : Shift → Counts) (k : ℕ) (space : List ℕ) (start : ℕ) where
+  -- the records of some shifts stand from `start` on, and the next goes behind them
+  pub record Written (l : List Shift) (new : List ℕ) (next : ℕ) : Type 0 where
+    pub held : new ≡ sets space start (bytesOf at k l)
+    pub ends : next ≡ start + 20 * length l
+
+  pub written-none : Written [] space start
+  unfolding bytesOf recordsBytes
+  written-none = record { held = refl; ends = omega arith }
+
+  pub written-more : {l : List Shift} (m : List Shift) {mid new : List ℕ} {next after : ℕ} → Written l mid next → new ≡ sets mid next (bytesOf at k m) → after ≡ next + 20 * length m
+      → Written (l ++ m) new after
+  written-more {l} m {mid} {new} {next} {after} w e p = record {
+    held =
+        e
+        ∙ ap₂ (λ (x : List ℕ) (i : ℕ). sets x i (bytesOf at k m)) (w .held) (w .ends ∙ ap (λ (n : ℕ). start + n) (sym (bytes-of-length at k l)))
+        ∙ sym (sets-append space start (bytesOf at k l) (bytesOf at k m))
+        ∙ ap (sets space start) (sym (bytes-of-append at k l m));
+    ends = omega (arith, p, w .ends, length-append l m);
+  }
+
+  -- the space is as long as it was
+  pub written-long : {l : List Shift} {new : List ℕ} {next : ℕ} → Written l new next → length new ≡ length space
+  written-long {l} w = ap length (w .held) ∙ length-sets space start (bytesOf at k l)
+
+-- no rivals, no bytes
+pub bytes-none : (at : Shift → Counts) (k : ℕ) (l : List Shift) → 0 ≡ length l → (space : List ℕ) (start : ℕ) → space ≡ sets space start (bytesOf at k l)
+unfolding bytesOf recordsBytes
+bytes-none at k [] e space start = refl
+bytes-none at k (s ∷ l) e space start = absurd (let z : 0 ≡ suc (length l) = e in omega arith)
+
+-- ---- a row's records, by a loop over its columns
+
+-- the record of one shift that passes, and no bytes for one that does not
+bytes-one : (at : Shift → Counts) (k : ℕ) (s : Shift) (t : Bool) → bytesOf at k (cond t (s ∷ []) []) ≡ cond t (recordBytes (recordOf at k s)) []
+unfolding bytesOf recordsBytes
+bytes-one at k s true = append-nil (recordBytes (recordOf at k s))
+bytes-one at k s false = refl
+
+length-one : (s : Shift) (t : Bool) → length (cond t (s ∷ []) []) ≡ cond t 1 0
+length-one s true = refl
+length-one s false = refl
+
+module _ (at : Shift → Counts) (k : ℕ) (space : List ℕ) (start : ℕ) (centre : Shift) (reach floor limit : ℕ) where
+  pub record-more : (j i : ℕ) {mid new : List ℕ} {next after : ℕ} {c : Counts} (s : Shift) → Written at k space start (rivalsUpTo at centre reach floor limit j i) mid next
+      → s ≡ windowAt centre reach j i → c ≡ at s → new ≡ sets mid next (cond (isRival (λ (x : Shift). c) floor limit origin) (recordBytes (record { frame = k; shift = s; counts = c })) [])
+      → after ≡ next + 20 * cond (isRival (λ (x : Shift). c) floor limit origin) 1 0
+      → Written at k space start (rivalsUpTo at centre reach floor limit j (i + 1)) new after
+  unfolding rivalsUpTo
+  record-more j i {mid} {new} {next} {after} {c} s w p e q r =
+      let test = isRival at floor limit in
+      let t = test (windowAt centre reach j i) in
+      let same : isRival (λ (x : Shift). c) floor limit origin ≡ t = rival-by-counts at floor limit s e ∙ ap test p in
+      let named : record { frame = k; shift = s; counts = c } ≡ recordOf at k (windowAt centre reach j i) = λ m. record { frame = k; shift = p m; counts = (e ∙ ap at p) m } in
+      subst (λ (l : List Shift). Written at k space start l new after) (sym (keep-more test i (windowAt centre reach j)))
+      (written-more at k space start (cond t (windowAt centre reach j i ∷ []) []) w
+      (q ∙ ap₂ (λ (b : Bool) (d : Record). sets mid next (cond b (recordBytes d) [])) same named ∙ ap (sets mid next) (sym (bytes-one at k (windowAt centre reach j i) t)))
+      (r ∙ ap (λ (b : Bool). next + 20 * cond b 1 0) same ∙ ap (λ (n : ℕ). next + 20 * n) (sym (length-one (windowAt centre reach j i) t))))
+
+  pub record-none : (j : ℕ) → Written at k space start (rivalsUpTo at centre reach floor limit j 0) space start
+  unfolding rivalsUpTo
+  record-none j = subst (λ (l : List Shift). Written at k space start l space start) (sym (keep-none (isRival at floor limit) (windowAt centre reach j))) (written-none at k space start)
+
+  -- there is room for the next one
+  pub record-fits : (j i : ℕ) {mid : List ℕ} {next : ℕ} {c : Counts} (s : Shift) → Written at k space start (rivalsUpTo at centre reach floor limit j i) mid next → s ≡ windowAt centre reach j i → c ≡ at s
+      → i < suc (2 * reach) → start + 20 * length (rowRivals at centre reach floor limit j) ≤ length space → next + 20 * cond (isRival (λ (x : Shift). c) floor limit origin) 1 0 ≤ length mid
+  unfolding rowRivals windowRow rivalsUpTo
+  record-fits j i {mid} {next} {c} s w p e h room =
+      let test = isRival at floor limit in
+      let f = windowAt centre reach j in
+      let same : isRival (λ (x : Shift). c) floor limit origin ≡ test (f i) = rival-by-counts at floor limit s e ∙ ap test p in
+      let next-one = keep-count test i f {m = length (keepIf test (build i f))} refl refl in
+      omega (
+        arith,
+        room,
+        w .ends,
+        written-long at k space start w,
+        ap (λ (b : Bool). cond {A = ℕ} b 1 0) same,
+        next-one,
+        keep-less test (i + 1) (suc (2 * reach)) f (omega arith),
+      )
+
+  pub record-all : (j : ℕ) {i : ℕ} {new : List ℕ} {next : ℕ} → i ≡ suc (2 * reach) → Written at k space start (rivalsUpTo at centre reach floor limit j i) new next
+      → Written at k space start (rowRivals at centre reach floor limit j) new next
+  unfolding rowRivals windowRow rivalsUpTo
+  record-all j {i} {new} {next} e w = subst (λ (n : ℕ). Written at k space start (rivalsUpTo at centre reach floor limit j n) new next) e w
+
+  -- ---- and by one over its rows
+
+  pub rows-none : Written at k space start (joined 0 (rowRivals at centre reach floor limit)) space start
+  rows-none = subst (λ (l : List Shift). Written at k space start l space start) (sym (joined-none (rowRivals at centre reach floor limit))) (written-none at k space start)
+
+  pub rows-more : (j : ℕ) {mid new : List ℕ} {next after : ℕ} → Written at k space start (joined j (rowRivals at centre reach floor limit)) mid next
+      → new ≡ sets mid next (bytesOf at k (rowRivals at centre reach floor limit j)) → after ≡ next + 20 * length (rowRivals at centre reach floor limit j)
+      → Written at k space start (joined (j + 1) (rowRivals at centre reach floor limit)) new after
+  rows-more j {mid} {new} {next} {after} w e p =
+      subst (λ (l : List Shift). Written at k space start l new after) (sym (joined-more j (rowRivals at centre reach floor limit)))
+      (written-more at k space start (rowRivals at centre reach floor limit j) w e p)
+
+  pub rows-fit : (j : ℕ) {mid : List ℕ} {next : ℕ} → Written at k space start (joined j (rowRivals at centre reach floor limit)) mid next → j < suc (2 * reach)
+      → start + 20 * length (survey at centre reach floor limit) ≤ length space → next + 20 * length (rowRivals at centre reach floor limit j) ≤ length mid
+  rows-fit j {mid} {next} w h room =
+      let r = rowRivals at centre reach floor limit in
+      omega (
+        arith,
+        room,
+        w .ends,
+        written-long at k space start w,
+        ap length (survey-rows at centre reach floor limit),
+        joined-part (suc (2 * reach)) j r h,
+      )
+
+  pub rows-all : {j : ℕ} {new : List ℕ} {next : ℕ} → j ≡ suc (2 * reach) → Written at k space start (joined j (rowRivals at centre reach floor limit)) new next
+      → Written at k space start (survey at centre reach floor limit) new next
+  rows-all {j} {new} {next} e w =
+      subst (λ (l : List Shift). Written at k space start l new next) (sym (survey-rows at centre reach floor limit))
+      (subst (λ (n : ℕ). Written at k space start (joined n (rowRivals at centre reach floor limit)) new next) e w)
+
+-- ---- the step of a frame, by the shifts of a stack
+
+-- a sum of two shifts less the first is the second
+sum-less : (a b : ℤ) → (a +ℤ b) -ℤ a ≡ b
+sum-less a b = equal ((a +ℤ b) -ℤ a) b (omega (arith, minus (a +ℤ b) a, add a b))
+
+abbrev pub less : Shift → Shift → Shift
+less s t = record { x = s .x -ℤ t .x; y = s .y -ℤ t .y }
+
+offset-less : (s d t : Shift) → t ≡ offset s d → less t s ≡ d
+offset-less s d t e = ap (λ (u : Shift). less u s) e ∙ (λ i. record { x = sum-less (s .x) (d .x) i; y = sum-less (s .y) (d .y) i })
+
+-- the neighbour is one of the frames, and the step the difference
+neighbour-self : (i : ℕ) → neighbour i i ≡ i
+unfolding neighbour
+neighbour-self i = simp (le-ltb i i (omega arith))
+
+pub neighbour-among : (r k n : ℕ) → r < n → k < n → neighbour r k < n
+neighbour-among r k n p q = ⊎-elim
+    (λ (l : k < r). omega (arith, neighbour-below r k l))
+    (λ (l : r ≤ k). ⊎-elim
+    (λ (m : r < k). omega (arith, neighbour-above r k m))
+    (λ (m : k ≤ r). let e : k ≡ r = omega arith in omega (arith, ap (neighbour r) e, neighbour-self r))
+    (lt-or-le r k))
+    (lt-or-le k r)
+
+pub step-less : (a : Stack) (k : ℕ) → (k ≡ a .reference → ⊥) → less (shiftOf a k) (shiftOf a (neighbour (a .reference) k)) ≡ stepOf a k
+step-less a k ne = ⊎-elim
+    (λ (l : k < a .reference).
+    let e : neighbour (a .reference) k ≡ k + 1 = neighbour-below (a .reference) k l ∙ sym (add-one k) in
+    ap (λ (i : ℕ). less (shiftOf a k) (shiftOf a i)) e ∙ offset-less (shiftOf a (k + 1)) (stepOf a k) (shiftOf a k) (shift-below a k l))
+    (λ (l : a .reference ≤ k).
+    let m : a .reference < k = above l in
+    let e : neighbour (a .reference) k ≡ k - 1 = neighbour-above (a .reference) k m in
+    let up : k - 1 + 1 ≡ k = omega arith in
+    ap (λ (i : ℕ). less (shiftOf a k) (shiftOf a i)) e
+    ∙ offset-less (shiftOf a (k - 1)) (stepOf a k) (shiftOf a k) (ap (shiftOf a) (sym up) ∙ shift-above a (k - 1) (omega arith) ∙ ap (λ (i : ℕ). offset (shiftOf a (k - 1)) (stepOf a i)) up))
+    (lt-or-le k (a .reference))
+  where
+    above : a .reference ≤ k → a .reference < k
+    above l = ⊎-elim (λ (e : a .reference ≡ k). absurd (ne (sym e))) (λ (m : a .reference < k). m) (eq-or-lt-of-le l)
+
+-- a coordinate of a list of shifts
+pub listed-x : (l : List Shift) (i : ℕ) → getD (listed l) (2 * i) (pos 0) ≡ getD l i origin .x
+unfolding listed
+listed-x [] i = refl
+listed-x (s ∷ l) zero = refl
+listed-x (s ∷ l) (suc i) = let e : 2 * suc i ≡ suc (suc (2 * i)) = omega arith in ap (λ (k : ℕ). getD (s .x ∷ s .y ∷ listed l) k (pos 0)) e ∙ listed-x l i
+
+pub listed-y : (l : List Shift) (i : ℕ) → getD (listed l) (2 * i + 1) (pos 0) ≡ getD l i origin .y
+unfolding listed
+listed-y [] i = refl
+listed-y (s ∷ l) zero = refl
+listed-y (s ∷ l) (suc i) = let e : 2 * suc i + 1 ≡ suc (suc (2 * i + 1)) = omega arith in ap (λ (k : ℕ). getD (s .x ∷ s .y ∷ listed l) k (pos 0)) e ∙ listed-y l i
+
+-- ---- how many rivals there can be
+
+survey-few : (at : Shift → Counts) (c : Shift) (reach floor limit : ℕ) → length (survey at c reach floor limit) ≤ suc (2 * reach) * suc (2 * reach)
+survey-few at c reach floor limit =
+    omega (
+      arith,
+      ap length (survey-rows at c reach floor limit),
+      joined-sum (suc (2 * reach)) (rowRivals at c reach floor limit),
+      sum-le (suc (2 * reach)) (suc (2 * reach)) (λ (j : ℕ). length (rowRivals at c reach floor limit j)) (λ j _. row-few at c reach floor limit j),
+    )
+
+pub rivals-few : (a : Stack) (q : Terms) (k : ℕ) → q .reach ≤ 64 → length (rivals a q k) ≤ 16641
+rivals-few a q k h = ⊎-elim
+    (λ (e : k ≡ a .reference). omega (arith, ap length (rivals-none a q k e)))
+    (λ (ne : k ≡ a .reference → ⊥).
+    let side : suc (2 * q .reach) ≤ 129 = omega arith in
+    omega (arith, ap length (rivals-survey a q k ne), survey-few (frameCounts a k) (stepOf a k) (q .reach) (q .floor) (limitOf a q k), mul-le-mul side side))
+    (eq-or-ne k (a .reference))
+
+pub rivals-most : (a : Stack) (q : Terms) (n : ℕ) → q .reach ≤ 64 → n ≤ 16 → sum n (λ (k : ℕ). length (rivals a q k)) ≤ 266256
+rivals-most a q n h few = omega (arith, sum-le n 16641 (λ (k : ℕ). length (rivals a q k)) (λ k _. rivals-few a q k h), mul-le-mul-right 16641 few)
+
+-- ---- parts of a list that holds rows one after another
+
+pub row-of-joined : (n w : ℕ) (r : ℕ → List ℕ) (l : List ℕ) → ((i : ℕ) → length (r i) ≡ w) → take (n * w) l ≡ joined n r → n * w ≤ length l → (k : ℕ) → k < n → take w (drop (k * w) l) ≡ r k
+row-of-joined n w r l long e room k h =
+    let inside = row-inside w n k h in
+    let part = take w (drop (k * w) l) in
+    let size : length part ≡ w = length-take-le w (drop (k * w) l) (omega (arith, length-drop (k * w) l)) in
+    let at : (i : ℕ) → i < w → getD part i 0 ≡ getD (r k) i 0 = λ i b.
+    getD-take w (drop (k * w) l) i 0 b
+    ∙ getD-drop (k * w) l i 0
+    ∙ sym (getD-take (n * w) l (k * w + i) 0 (omega arith))
+    ∙ ap (λ (m : List ℕ). getD m (k * w + i) 0) e
+    ∙ joined-at n w r 0 (λ j _. long j) k i h b in
+    build-is w (λ (i : ℕ). getD (r k) i 0) part 0 size at ∙ sym (build-is w (λ (i : ℕ). getD (r k) i 0) (r k) 0 (long k) (λ i _. refl))
+
+-- ---- the records of some frames, one after another
+
+pub none-written : (space : List ℕ) (r : ℕ → List Record) → space ≡ sets space 0 (recordsBytes (joined 0 r))
+unfolding recordsBytes
+none-written space r = ap (λ (l : List Record). sets space 0 (recordsBytes l)) (sym (joined-none r))
+
+pub more-written : (space : List ℕ) (r : ℕ → List Record) (k : ℕ) {mid new : List ℕ} {next : ℕ} → mid ≡ sets space 0 (recordsBytes (joined k r)) → next ≡ 20 * length (joined k r)
+    → new ≡ sets mid next (recordsBytes (r k)) → new ≡ sets space 0 (recordsBytes (joined (k + 1) r))
+more-written space r k {mid} {new} {next} p e q =
+    let at : next ≡ 0 + length (recordsBytes (joined k r)) = omega (arith, bytes-length (joined k r)) in
+    q
+    ∙ ap₂ (λ (x : List ℕ) (i : ℕ). sets x i (recordsBytes (r k))) p at
+    ∙ sym (sets-append space 0 (recordsBytes (joined k r)) (recordsBytes (r k)))
+    ∙ ap (sets space 0) (sym (ap recordsBytes (joined-more k r) ∙ bytes-append (joined k r) (r k)))
+
+-- what was stored at the front of a list
+pub stored-front : {A : Type 0} (old vs : List A) → length vs ≤ length old → {new : List A} → new ≡ sets old 0 vs → (m : ℕ) → m ≡ length vs → take m new ≡ vs
+stored-front old vs h e m q = ap (take m) (e ∙ sets-front old vs h) ∙ take-at vs (drop (length vs) old) m (sym q)

@@ -1,0 +1,194 @@
+-- `mtb_align::report::report` meets its contract. Assumes nothing.
+use mathlib.Core.Path.{_≡_, refl, sym, ap, _∙_, subst}
+use mathlib.Core.List.{List, []}
+use Prim.Native.Nat.{ℕ, suc, _-_, _*_, _≤_}
+use borrow.Author.Needs.{needs}
+use native.Mathlib.Nat.{mul-le-mul}
+use native.Mathlib.Omega.{arith}
+use lib.ListN.{length, take, drop, replicate, length-replicate}
+use lib.Seq.{length-take-le}
+use Rattle.definitions.specs.Align.{Stack, stackOf}
+use Rattle.definitions.specs.Refusals.{Check, accepted, answer, surveyChecks, reportChecks}
+use Rattle.definitions.specs.Report.{recordsNeeded, reportCrop}
+use Rattle.laws.specs.Checks.{refused-too, after-refused}
+use Rattle.laws.specs.ChecksReport.{SurveyInOrder, survey-in-order, space-alone, space-alone-after, refused-before}
+use Rattle.laws.specs.Free.{scratch-free, scratch-kept}
+use Rattle.mtb_align.specs.Answers.{outcome, refusal}
+use Rattle.mtb_align.specs.Search.{optionsIn}
+use Rattle.mtb_align.specs.Survey.{Reported, termsIn}
+use Rattle.mtb_align.proofs.Walked.{ready}
+use Rattle.mtb_align.proofs.report.report.Statement.{statement}
+use Rattle.mtb_align.proofs.report.report.Tie as tie
+
+abbrev stack : tie.Start → Stack
+stack s = let a = s .args in stackOf (a .widths .now) (a .heights .now) (a .samples .now) (a .reference) (a .options .percentile) (optionsIn (a .options))
+
+abbrev needs-all : tie.Start → ℕ
+needs-all s = recordsNeeded (stack s) (termsIn (s .args .terms))
+
+-- what an accepted report answers
+abbrev reported : tie.Start → Reported
+reported s = record { crop = reportCrop (stack s); records = needs-all s }
+
+-- the checks up to the scratch, and all
+abbrev first : tie.Start → List Check
+first s =
+    let a = s .args in
+    surveyChecks (a .widths .now) (a .heights .now) (a .options .percentile) (a .reference) (a .options .bits) (length (a .samples .now)) (length (a .shifts .now)) (length (a .verdicts .now)) (a .terms .reach) (length (a .bytes .now)) (length (a .words .now))
+
+abbrev all : tie.Start → List Check
+all s = reportChecks (first s) (needs-all s) (length (s .args .records .now))
+
+-- a part that is the whole of an array of zeros
+part-long : (n : ℕ) → length (take (n - 0) (drop 0 (replicate {A = ℕ} n 0))) ≡ n
+part-long n =
+    let e : n - 0 ≡ n = omega arith in
+    ap (λ (m : ℕ). length (take m (replicate {A = ℕ} n 0))) e ∙ length-take-le n (replicate {A = ℕ} n 0) (omega (arith, length-replicate {A = ℕ} n 0))
+
+-- the rows of all windows are few
+rows-most : {n reach : ℕ} → n ≤ 16 → reach ≤ 64 → n * suc (2 * reach) ≤ 2064
+rows-most {n} {reach} p q = let side : suc (2 * reach) ≤ 129 = omega arith in mul-le-mul p side
+
+-- past the first
+passes : (c : tie.After-enum-told) → accepted (tt {0}) ≡ answer (first (c .before .before .before .before .before .before .before .before .before .before)) tt
+passes c = ap outcome (sym (c .enum-told .given .1)) ∙ c .before .before .report-fits .ensures
+
+held : (c : tie.After-enum-told)
+    → let a = c .before .before .before .before .before .before .before .before .before .before .args in
+    SurveyInOrder (a .widths .now) (a .heights .now) (a .options .percentile) (a .reference) (a .options .bits) (length (a .samples .now)) (length (a .shifts .now)) (length (a .verdicts .now)) (a .terms .reach) (length (a .bytes .now)) (length (a .words .now))
+held c = survey-in-order _ _ _ _ _ _ _ _ _ _ _ (passes c)
+
+report-fits-requires : tie.Need-report-fits-requires
+report-fits-requires c κs = search needs
+
+enum-told : tie.Need-enum-told
+enum-told c = search needs
+
+shared-slice-read-width : tie.Need-shared-slice-read-width
+shared-slice-read-width c = omega (arith, held (c .before) .stack .frames .among)
+
+shared-slice-read-height : tie.Need-shared-slice-read-height
+shared-slice-read-height c = let f = held (c .before .before) .stack .frames in omega (arith, f .among, f .same)
+
+sub-report-within : tie.Need-sub-report-within
+sub-report-within c = search needs
+
+part-placed-start : tie.Need-part-placed-start
+part-placed-start c = search needs
+
+part-placed-end : tie.Need-part-placed-end
+part-placed-end c = search needs
+
+sub-report-within-2 : tie.Need-sub-report-within-2
+sub-report-within-2 c = search needs
+
+part-found-start : tie.Need-part-found-start
+part-found-start c = search needs
+
+part-found-end : tie.Need-part-found-end
+part-found-end c = search needs
+
+sub-report-within-3 : tie.Need-sub-report-within-3
+sub-report-within-3 c = search needs
+
+part-judged-start : tie.Need-part-judged-start
+part-judged-start c = search needs
+
+part-judged-end : tie.Need-part-judged-end
+part-judged-end c = search needs
+
+report-within-requires : tie.Need-report-within-requires
+report-within-requires c κs =
+    let q = held (c .before .before .before .before .before .before .before .before .before .before) in
+    let a = c .before .before .before .before .before .before .before .before .before .before .before .before .before .before .before .before .before .before .before .before .args in
+    let r = ready (q .stack) in (
+      (
+        q .stack .frames .among,
+        q .near,
+        record { wide = r .wide; high = r .high; few = r .few; cut = r .cut; frames = r .frames; list = omega (arith, r .few); pixels = r .pixels; maps = r .maps },
+      ),
+      (subst (λ (m : ℕ). length (a .widths .now) * suc (2 * a .terms .reach) ≤ m) (sym (part-long 2064)) (rows-most (q .stack .frames .few) (q .near)), r .few, q .stack .list, q .judged),
+    )
+
+enum-known-error : tie.Need-enum-known-error
+enum-known-error c = search needs
+
+same-length : tie.Need-same-length
+same-length c = search needs
+
+same-length-2 : tie.Need-same-length-2
+same-length-2 c = search needs
+
+same-length-3 : tie.Need-same-length-3
+same-length-3 c = search needs
+
+same-length-4 : tie.Need-same-length-4
+same-length-4 c = search needs
+
+same-length-5 : tie.Need-same-length-5
+same-length-5 c = search needs
+
+returns : tie.Need-returns
+unfolding stackOf
+returns c =
+    let s = c .before .before .before .before .before .before .before .before .before .before .before .before .before .before .before .before .before .before .before .before .before .before .before .before .before .before .before .before .before .before .before .before .before in
+    let a = s .args in
+    let q = termsIn (a .terms) in
+    let p = passes (c .before .before .before .before .before .before .before .before .before .before .before .before .before .before .before .before .before .before .before .before .before .before .before) in
+    let e = c .before .before .before .before .before .before .before .before .before .before .before .before .report-within .ensures in
+    let space = length (a .records .now) in (
+      e .0 ∙ space-alone (first s) (needs-all s) space p (reported s),
+      (
+        e .1 .0 ∙ space-alone-after (first s) (needs-all s) space p _ _,
+        (
+          e .1 .1 .0 ∙ space-alone-after (first s) (needs-all s) space p _ _,
+          (
+            e .1 .1 .1 .0 ∙ space-alone-after (first s) (needs-all s) space p _ _,
+            (scratch-free (first s) _ p (e .1 .1 .1 .1 .0), scratch-free (first s) _ p (e .1 .1 .1 .1 .1)),
+          ),
+        ),
+      ),
+    )
+
+returns-2 : tie.Need-returns-2
+returns-2 c =
+    let s = c .before .before .before .before .before .before .before .before .before .before .before in
+    let r = reported s in
+    let p : refusal (c .before .error .given .0 .0) ≡ answer (first s) (tt {0}) = ap outcome (sym (c .before .error .given .1)) ∙ c .before .before .before .report-fits .ensures in
+    let e : refusal (c .before .error .given .0 .0) ≡ answer (all s) r = refused-before (first s) (needs-all s) (length (s .args .records .now)) r (refused-too (tt {0}) r (first s) (sym p)) in (
+      e,
+      (
+        sym (after-refused r (all s) _ _ (sym e)),
+        (
+          sym (after-refused r (all s) _ _ (sym e)),
+          (sym (after-refused r (all s) _ _ (sym e)), (scratch-kept (first s) _ p refl, scratch-kept (first s) _ p refl)),
+        ),
+      ),
+    )
+
+pub report-spec : {M : Type 1} → statement M
+report-spec =
+    tie.close
+    (tie.spec
+    report-fits-requires
+    enum-told
+    shared-slice-read-width
+    shared-slice-read-height
+    sub-report-within
+    part-placed-start
+    part-placed-end
+    sub-report-within-2
+    part-found-start
+    part-found-end
+    sub-report-within-3
+    part-judged-start
+    part-judged-end
+    report-within-requires
+    enum-known-error
+    same-length
+    same-length-2
+    same-length-3
+    same-length-4
+    same-length-5
+    returns
+    returns-2)

@@ -1,0 +1,58 @@
+-- The report's answer in document 01's terms, and what its inner functions compute of a stack.
+use Prim.Native.Nat.{ℕ, suc, _*_, _≤_}
+use mathlib.Core.Path.{_≡_}
+use mathlib.Core.Bool.{cond}
+use mathlib.Core.List.{List}
+use lib.Dec.{eqb}
+use lib.IntN.{ℤ}
+use lib.ListN.{length, take}
+use Rattle.definitions.specs.Build.{build}
+use Rattle.definitions.specs.Geometry as geometry
+use Rattle.definitions.specs.Align.{Stack, stepOf, shifts, stepWords, stackNeed}
+use Rattle.definitions.specs.Refusals.{Answer, accepted}
+use Rattle.definitions.specs.Report.{Terms, frameCounts, limitOf}
+use Rattle.laws.specs.Surveys.{rowRivals}
+use Rattle.mtb_align.specs.declared.report.Terms as code
+use Rattle.mtb_align.specs.declared.report.Summary.{Summary}
+use Rattle.mtb_align.specs.declared.report.ReportAnswer.{ReportAnswer}
+use Rattle.mtb_align.specs.declared.report.ReportAnswer.the-variants as reports
+use Rattle.mtb_align.specs.Answers.{refusal, rectIn}
+
+-- ---- the answer
+
+-- 01's r, f and m.
+abbrev pub termsIn : code.Terms → Terms
+termsIn q = record { reach = q .reach; floor = q .floor; margin = q .margin }
+
+-- The crop and the record count.
+pub record Reported : Type 0 where
+  pub crop : geometry.Rect
+  pub records : ℕ
+
+abbrev pub reportedIn : Summary → Reported
+reportedIn s = record { crop = rectIn (s .crop); records = s .records }
+
+abbrev pub reportAnswer : ReportAnswer → Answer Reported
+reportAnswer (reports.Reported s) = accepted (reportedIn s)
+reportAnswer (reports.Refused e) = refusal e
+
+-- ---- a stack
+
+-- What the survey of n frames needs: sizes and a percentile within 01's limits, all samples, and room for four bitmaps.
+pub record Framed (w h n percentile samples words : ℕ) : Type 0 where
+  pub wide : w ≤ 8192
+  pub high : h ≤ 8192
+  pub few : n ≤ 16
+  pub cut : percentile ≤ 100
+  pub frames : n * (w * h) ≤ samples
+  pub maps : stackNeed n (stepWords w h) ≤ words
+
+-- The shifts of a stack stand at the front of a list.
+pub record Placed (a : Stack) (list : List ℤ) : Type 0 where
+  pub long : 2 * a .frames ≤ length list
+  pub front : take (2 * a .frames) list ≡ geometry.listed (shifts a)
+
+-- How many rivals each row of frame k's window has. The reference has none.
+unfoldable pub rowNumbers : Stack → Terms → ℕ → List ℕ
+rowNumbers a q k =
+    build (suc (2 * q .reach)) (λ (j : ℕ). cond (eqb k (a .reference)) 0 (length (rowRivals (frameCounts a k) (stepOf a k) (q .reach) (q .floor) (limitOf a q k) j)))

@@ -1,0 +1,903 @@
+// The report, which the original has not: every rival of each frame's step, a verdict on each frame, and the crop.
+use super::align::Options;
+use super::align::counts_at;
+use super::align::frames_fit;
+use super::align::pack_both;
+use super::align::scratch_fits;
+use super::align::walk;
+use super::bitmap::words_per_row;
+use super::difference::Counts;
+use super::error::Error;
+use super::error::Outcome;
+use super::geometry::CropAnswer;
+use super::geometry::Rect;
+use super::geometry::Shift;
+use super::geometry::above;
+use super::geometry::below;
+use super::geometry::clear_run;
+use super::geometry::common_crop;
+use super::geometry::copy_run;
+ghost use mathlib.Core.Path.{_≡_};
+ghost use mathlib.Core.Bool.{cond};
+ghost use mathlib.Core.List.{[], _∷_, _++_};
+ghost use Prim.Native.Nat.{suc, _+_, _*_, _%_, _≤_, _<_};
+ghost use lib.Dec.{ltb, eqb};
+ghost use lib.IntN.{pos, _-ℤ_};
+ghost use lib.ListN.{length, getD, take, drop};
+ghost use lib.Seq.{sets};
+ghost use Rattle.definitions.specs.Build.{build, joined};
+ghost use Rattle.definitions.specs.Geometry.{origin, listed, shiftsOf, commonCrop};
+ghost use Rattle.definitions.specs.Align.{stackOf, neighbour, stepOf, stepBytes, stepWords, stackNeed};
+ghost use Rattle.definitions.specs.Align as stacks;
+ghost use Rattle.definitions.specs.Refusals.{answer, after, FreeUpTo, Scratch, surveyChecks, reportChecks};
+ghost use Rattle.definitions.specs.Report.{isRival, survey, frameCounts, rivals, bytes32, twosComplement, recordBytes, recordsBytes, recordsNeeded, frameRecords, verdict, reportCrop};
+ghost use Rattle.definitions.specs.Report as reports;
+ghost use Rattle.laws.specs.Steps.{Within};
+ghost use Rattle.laws.specs.Surveys.{windowAt, rowRivals, bytesOf};
+ghost use Rattle.mtb_align.specs.Answers.{outcome, shiftIn, countsIn, rectIn};
+ghost use Rattle.mtb_align.specs.Search.{TwoPairs, pairCounts, exposureOf, fourOf, optionsIn};
+ghost use Rattle.mtb_align.specs.Stack.{stackIn, frameIn, Ready};
+ghost use Rattle.mtb_align.specs.Survey.{termsIn, Reported, reportAnswer, Framed, Placed, rowNumbers};
+
+// How far from a step its rivals are sought, how many pixels a rival compares at least, and in how many more than the step it may
+// disagree.
+pub struct Terms {
+    pub reach: u32,
+    pub floor: u32,
+    pub margin: u32,
+}
+
+// The crop of the stack's shifts, and how many records were written.
+pub struct Summary {
+    pub crop: Rect,
+    pub records: usize,
+}
+
+pub enum ReportAnswer {
+    Reported(Summary),
+    Refused(Error),
+}
+
+// ---- a survey of two packed pairs
+
+// What makes a shift of the window a rival.
+fn is_rival(counts: Counts, floor: u64, limit: u64) -> bool
+    ensures { λ r. ⌜ r ≡ isRival (λ _. countsIn counts) floor limit origin ⌝ }
+{
+    if counts.compared < floor {
+        return false;
+    }
+    counts.disagreeing <= limit
+}
+
+// The shift in column i and row j of the window around a centre.
+fn in_window(centre: Shift, reach: usize, i: usize, j: usize) -> Shift
+    requires { ⌜ Within 65536 (shiftIn centre) × (reach ≤ 64) × (i ≤ 128) × (j ≤ 128) ⌝ }
+    ensures { λ r. ⌜ shiftIn r ≡ windowAt (shiftIn centre) reach j i ⌝ }
+{
+    Shift {
+        x: centre.x - reach as i32 + i as i32,
+        y: centre.y - reach as i32 + j as i32,
+    }
+}
+
+// 1 for a rival.
+fn one_if_rival(counts: Counts, floor: u64, limit: u64) -> usize
+    ensures { λ r. ⌜ r ≡ cond (isRival (λ _. countsIn counts) floor limit origin) 1 0 ⌝ }
+{
+    if is_rival(counts, floor, limit) {
+        return 1;
+    }
+    0
+}
+
+// How many rivals row j of the window has.
+fn row_rivals(
+    words: &[u64],
+    width: usize,
+    height: usize,
+    centre: Shift,
+    reach: usize,
+    floor: u64,
+    limit: u64,
+    j: usize,
+) -> usize
+    requires { ⌜ TwoPairs (now words) width height × Within 65536 (shiftIn centre) × (reach ≤ 64) × (j ≤ 2 * reach) ⌝ }
+    ensures { λ r. ⌜ r ≡ length (rowRivals (pairCounts (now (words .entry)) width height) (shiftIn centre) reach floor limit j) ⌝ }
+{
+    let side = 2 * reach + 1;
+    let mut number: usize = 0;
+    let mut i: usize = 0;
+    while i < side {
+        let counts = counts_at(words, width, height, in_window(centre, reach, i, j));
+        number += one_if_rival(counts, floor, limit);
+        i += 1;
+    }
+    number
+}
+
+// How many rivals there are around a centre; each row's number goes into `found`, from `at` on.
+fn survey(
+    words: &[u64],
+    width: usize,
+    height: usize,
+    centre: Shift,
+    reach: usize,
+    floor: u64,
+    limit: u64,
+    found: &mut [u8],
+    at: usize,
+) -> usize
+    requires { ⌜ TwoPairs (now words) width height × Within 65536 (shiftIn centre) × (reach ≤ 64) × (at + suc (2 * reach) ≤ length (now found)) ⌝ }
+    ensures { λ r. ⌜ r ≡ length (survey (pairCounts (now (words .entry)) width height) (shiftIn centre) reach floor limit) ⌝ }
+    ensures { λ _. ⌜ now (found .exit) ≡ sets (now (found .entry)) at (build (suc (2 * reach)) (λ j. length (rowRivals (pairCounts (now (words .entry)) width height) (shiftIn centre) reach floor limit j))) ⌝ }
+{
+    let side = 2 * reach + 1;
+    let mut number: usize = 0;
+    let mut j: usize = 0;
+    while j < side {
+        let here = row_rivals(words, width, height, centre, reach, floor, limit, j);
+        found[at + j] = here as u8;
+        number += here;
+        j += 1;
+    }
+    number
+}
+
+// ---- records
+
+// Four bytes from `at` on, low byte first.
+fn put_number(space: &mut [u8], at: usize, value: u32)
+    requires { ⌜ at + 4 ≤ length (now space) ⌝ }
+    ensures { λ _. ⌜ now (space .exit) ≡ sets (now (space .entry)) at (bytes32 value) ⌝ }
+{
+    space[at] = (value % 256) as u8;
+    space[at + 1] = (value / 256 % 256) as u8;
+    space[at + 2] = (value / 65536 % 256) as u8;
+    space[at + 3] = (value / 16777216 % 256) as u8;
+}
+
+// A coordinate in 32 bits, by two's complement.
+fn in_32_bits(coordinate: i32) -> u32
+    ensures { λ r. ⌜ r ≡ twosComplement coordinate ⌝ }
+{
+    let under = below(coordinate);
+    if under > 0 {
+        return (4294967296 - under) as u32;
+    }
+    above(coordinate) as u32
+}
+
+// The 20 bytes of a record from `at` on.
+fn put_record(space: &mut [u8], at: usize, frame: usize, shift: Shift, counts: Counts)
+    requires { ⌜ (at + 20 ≤ length (now space)) × (frame < 16) × (counts .disagreeing < 4294967296) × (counts .compared < 4294967296) ⌝ }
+    ensures { λ _. ⌜ now (space .exit) ≡ sets (now (space .entry)) at (recordBytes (record { frame = frame; shift = shiftIn shift; counts = countsIn counts })) ⌝ }
+{
+    put_number(space, at, frame as u32);
+    put_number(space, at + 4, in_32_bits(shift.x));
+    put_number(space, at + 8, in_32_bits(shift.y));
+    put_number(space, at + 12, counts.disagreeing as u32);
+    put_number(space, at + 16, counts.compared as u32);
+}
+
+// The record of a shift that is a rival; the answer is where the next one goes.
+fn put_rival(
+    space: &mut [u8],
+    at: usize,
+    frame: usize,
+    shift: Shift,
+    counts: Counts,
+    floor: u64,
+    limit: u64,
+) -> usize
+    requires { ⌜
+        (at + 20 * cond (isRival (λ _. countsIn counts) floor limit origin) 1 0 ≤ length (now space))
+        × (frame < 16) × (counts .disagreeing < 4294967296) × (counts .compared < 4294967296)
+        ⌝ }
+    ensures { λ r. ⌜ r ≡ at + 20 * cond (isRival (λ _. countsIn counts) floor limit origin) 1 0 ⌝ }
+    ensures { λ _. ⌜ now (space .exit) ≡ sets (now (space .entry)) at (cond (isRival (λ _. countsIn counts) floor limit origin) (recordBytes (record { frame = frame; shift = shiftIn shift; counts = countsIn counts })) []) ⌝ }
+{
+    if is_rival(counts, floor, limit) {
+        put_record(space, at, frame, shift, counts);
+        return at + 20;
+    }
+    at
+}
+
+// The records of the rivals in row j of the window, which has `number` of them, from `at` on; the answer is where the next one
+// goes. A row without rivals is not counted again.
+fn put_row(
+    words: &[u64],
+    width: usize,
+    height: usize,
+    centre: Shift,
+    reach: usize,
+    floor: u64,
+    limit: u64,
+    j: usize,
+    number: u8,
+    frame: usize,
+    space: &mut [u8],
+    at: usize,
+) -> usize
+    requires { ⌜ TwoPairs (now words) width height × Within 65536 (shiftIn centre) × (reach ≤ 64) × (j ≤ 2 * reach) × (frame < 16) ⌝ }
+    requires { ⌜ number ≡ length (rowRivals (pairCounts (now words) width height) (shiftIn centre) reach floor limit j) ⌝ }
+    requires { ⌜ at + 20 * length (rowRivals (pairCounts (now words) width height) (shiftIn centre) reach floor limit j) ≤ length (now space) ⌝ }
+    ensures { λ r. ⌜ r ≡ at + 20 * length (rowRivals (pairCounts (now (words .entry)) width height) (shiftIn centre) reach floor limit j) ⌝ }
+    ensures { λ _. ⌜ now (space .exit) ≡ sets (now (space .entry)) at (bytesOf (pairCounts (now (words .entry)) width height) frame (rowRivals (pairCounts (now (words .entry)) width height) (shiftIn centre) reach floor limit j)) ⌝ }
+{
+    if number == 0 {
+        return at;
+    }
+    let side = 2 * reach + 1;
+    let mut next = at;
+    let mut i: usize = 0;
+    while i < side {
+        let shift = in_window(centre, reach, i, j);
+        let counts = counts_at(words, width, height, shift);
+        next = put_rival(space, next, frame, shift, counts, floor, limit);
+        i += 1;
+    }
+    next
+}
+
+// The records of all rivals around a centre, row by row; `found` has from `from` on how many each row has.
+fn put_rivals(
+    words: &[u64],
+    width: usize,
+    height: usize,
+    centre: Shift,
+    reach: usize,
+    floor: u64,
+    limit: u64,
+    found: &[u8],
+    from: usize,
+    frame: usize,
+    space: &mut [u8],
+    at: usize,
+) -> usize
+    requires { ⌜ TwoPairs (now words) width height × Within 65536 (shiftIn centre) × (reach ≤ 64) × (frame < 16) ⌝ }
+    requires { ⌜ (from + suc (2 * reach) ≤ length (now found)) × (take (suc (2 * reach)) (drop from (now found)) ≡ build (suc (2 * reach)) (λ j. length (rowRivals (pairCounts (now words) width height) (shiftIn centre) reach floor limit j))) ⌝ }
+    requires { ⌜ at + 20 * length (survey (pairCounts (now words) width height) (shiftIn centre) reach floor limit) ≤ length (now space) ⌝ }
+    ensures { λ r. ⌜ r ≡ at + 20 * length (survey (pairCounts (now (words .entry)) width height) (shiftIn centre) reach floor limit) ⌝ }
+    ensures { λ _. ⌜ now (space .exit) ≡ sets (now (space .entry)) at (bytesOf (pairCounts (now (words .entry)) width height) frame (survey (pairCounts (now (words .entry)) width height) (shiftIn centre) reach floor limit)) ⌝ }
+{
+    let side = 2 * reach + 1;
+    let mut next = at;
+    let mut j: usize = 0;
+    while j < side {
+        next = put_row(
+            words,
+            width,
+            height,
+            centre,
+            reach,
+            floor,
+            limit,
+            j,
+            found[from + j],
+            frame,
+            space,
+            next,
+        );
+        j += 1;
+    }
+    next
+}
+
+// ---- the frames of a stack
+
+// The frame next to frame k on the reference's side.
+fn neighbour_of(reference: usize, k: usize) -> usize
+    requires { ⌜ reference < 16 ⌝ }
+    ensures { λ r. ⌜ r ≡ neighbour reference k ⌝ }
+{
+    if k < reference {
+        return k + 1;
+    }
+    if reference < k {
+        return k - 1;
+    }
+    k
+}
+
+// The step of a frame: its shift less its neighbour's.
+fn step_between(shifts: &[i32], near: usize, k: usize) -> Shift
+    requires { ⌜ (2 * near + 2 ≤ length (now shifts)) × (2 * k + 2 ≤ length (now shifts)) ⌝ }
+    requires { ⌜ Within 1048576 (record { x = getD (now shifts) (2 * near) (pos 0); y = getD (now shifts) (2 * near + 1) (pos 0) }) × Within 1048576 (record { x = getD (now shifts) (2 * k) (pos 0); y = getD (now shifts) (2 * k + 1) (pos 0) }) ⌝ }
+    ensures { λ r. ⌜ shiftIn r ≡ record { x = getD (now (shifts .entry)) (2 * k) (pos 0) -ℤ getD (now (shifts .entry)) (2 * near) (pos 0); y = getD (now (shifts .entry)) (2 * k + 1) (pos 0) -ℤ getD (now (shifts .entry)) (2 * near + 1) (pos 0) } ⌝ }
+{
+    Shift {
+        x: shifts[2 * k] - shifts[2 * near],
+        y: shifts[2 * k + 1] - shifts[2 * near + 1],
+    }
+}
+
+// The bitmaps of a frame's neighbour and its own, at full size.
+fn pack_pair(
+    samples: &[u8],
+    width: usize,
+    height: usize,
+    near: usize,
+    k: usize,
+    options: Options,
+    words: &mut [u64],
+)
+    requires { ⌜
+        (width ≤ 8192) × (height ≤ 8192) × (options .percentile ≤ 100)
+        × ((near + 1) * (width * height) ≤ length (now samples)) × ((k + 1) * (width * height) ≤ length (now samples))
+        × (stepWords width height ≤ length (now words))
+        ⌝ }
+    ensures { λ _. ⌜ now (words .exit) ≡ sets (now (words .entry)) 0 (fourOf width height (options .tolerance) (exposureOf (frameIn (now (samples .entry)) (width * height) near) (options .percentile)) (exposureOf (frameIn (now (samples .entry)) (width * height) k) (options .percentile))) ⌝ }
+{
+    let size = width * height;
+    let start = near * size;
+    let end = start + size;
+    let target = k * size;
+    let target_end = target + size;
+    let percentile = options.percentile;
+    pack_both(
+        &samples[start..end],
+        &samples[target..target_end],
+        width,
+        height,
+        percentile,
+        percentile,
+        options.tolerance,
+        words,
+    );
+}
+
+// The step of frame k against its neighbour, and the bitmaps of both; not for the reference.
+fn sight(
+    samples: &[u8],
+    width: usize,
+    height: usize,
+    reference: usize,
+    n: usize,
+    k: usize,
+    options: Options,
+    shifts: &[i32],
+    words: &mut [u64],
+) -> Shift
+    requires { ⌜ (reference < n) × (k < n) × (k ≡ reference → ⊥) × Framed width height n (options .percentile) (length (now samples)) (length (now words)) ⌝ }
+    requires { ⌜ Placed (stackIn width height n (now samples) reference options) (now shifts) ⌝ }
+    ensures { λ r. ⌜ shiftIn r ≡ stepOf (stackIn width height n (now (samples .entry)) reference options) k ⌝ }
+    ensures { λ _. ⌜ now (words .exit) ≡ sets (now (words .entry)) 0 (fourOf width height (options .tolerance) (exposureOf (frameIn (now (samples .entry)) (width * height) (neighbour reference k)) (options .percentile)) (exposureOf (frameIn (now (samples .entry)) (width * height) k) (options .percentile))) ⌝ }
+{
+    let near = neighbour_of(reference, k);
+    pack_pair(samples, width, height, near, k, options, words);
+    step_between(shifts, near, k)
+}
+
+// How many pixels a frame's step compares, and how many rivals it has.
+struct Surveyed {
+    compared: u64,
+    rivals: usize,
+}
+
+// The survey of one pair around its step.
+fn survey_pair(
+    words: &[u64],
+    width: usize,
+    height: usize,
+    step: Shift,
+    terms: Terms,
+    found: &mut [u8],
+    at: usize,
+) -> Surveyed
+    requires { ⌜ TwoPairs (now words) width height × Within 65536 (shiftIn step) × (terms .reach ≤ 64) × (at + suc (2 * terms .reach) ≤ length (now found)) ⌝ }
+    ensures { λ r. ⌜
+        (r .compared ≡ pairCounts (now (words .entry)) width height (shiftIn step) .compared)
+        × (r .rivals ≡ length (survey (pairCounts (now (words .entry)) width height) (shiftIn step) (terms .reach) (terms .floor) (pairCounts (now (words .entry)) width height (shiftIn step) .disagreeing + terms .margin)))
+        ⌝ }
+    ensures { λ _. ⌜ now (found .exit) ≡ sets (now (found .entry)) at (build (suc (2 * terms .reach)) (λ j. length (rowRivals (pairCounts (now (words .entry)) width height) (shiftIn step) (terms .reach) (terms .floor) (pairCounts (now (words .entry)) width height (shiftIn step) .disagreeing + terms .margin) j))) ⌝ }
+{
+    let counts = counts_at(words, width, height, step);
+    let rivals = survey(
+        words,
+        width,
+        height,
+        step,
+        terms.reach as usize,
+        terms.floor as u64,
+        counts.disagreeing + terms.margin as u64,
+        found,
+        at,
+    );
+    Surveyed {
+        compared: counts.compared,
+        rivals,
+    }
+}
+
+// The verdict on a frame that is not the reference.
+fn verdict_of(surveyed: Surveyed, floor: u64) -> u8
+    ensures { λ r. ⌜ r ≡ cond (ltb (surveyed .compared) floor) 1 (cond (eqb (surveyed .rivals) 1) 2 3) ⌝ }
+{
+    if surveyed.compared < floor {
+        return 1;
+    }
+    if surveyed.rivals == 1 {
+        return 2;
+    }
+    3
+}
+
+// How many rivals frame k has; each row's number goes into `found`, the verdict into `judged`.
+fn survey_frame(
+    samples: &[u8],
+    width: usize,
+    height: usize,
+    reference: usize,
+    n: usize,
+    k: usize,
+    options: Options,
+    terms: Terms,
+    shifts: &[i32],
+    found: &mut [u8],
+    judged: &mut [u8],
+    words: &mut [u64],
+) -> usize
+    requires { ⌜ (reference < n) × (k < n) × (terms .reach ≤ 64) × Framed width height n (options .percentile) (length (now samples)) (length (now words)) ⌝ }
+    requires { ⌜ Placed (stackIn width height n (now samples) reference options) (now shifts) × (n * suc (2 * terms .reach) ≤ length (now found)) × (n ≤ length (now judged)) ⌝ }
+    ensures { λ r. ⌜ r ≡ length (rivals (stackIn width height n (now (samples .entry)) reference options) (termsIn terms) k) ⌝ }
+    ensures { λ _. ⌜ now (found .exit) ≡ sets (now (found .entry)) (k * suc (2 * terms .reach)) (rowNumbers (stackIn width height n (now (samples .entry)) reference options) (termsIn terms) k) ⌝ }
+    ensures { λ _. ⌜ now (judged .exit) ≡ sets (now (judged .entry)) k (verdict (stackIn width height n (now (samples .entry)) reference options) (termsIn terms) k ∷ []) ⌝ }
+    ensures { λ _. ⌜ FreeUpTo (stackNeed n (stepWords width height)) (now (words .entry)) (now (words .exit)) ⌝ }
+{
+    let side = 2 * terms.reach as usize + 1;
+    if k == reference {
+        clear_run(found, k * side, side);
+        judged[k] = 0;
+        return 0;
+    }
+    let step = sight(
+        samples,
+        width,
+        height,
+        reference,
+        n,
+        k,
+        options,
+        shifts,
+        words,
+    );
+    let end = 4 * (height * words_per_row(width));
+    let surveyed = survey_pair(&words[0..end], width, height, step, terms, found, k * side);
+    let number = surveyed.rivals;
+    judged[k] = verdict_of(surveyed, terms.floor as u64);
+    number
+}
+
+// How many rivals all frames have.
+fn survey_frames(
+    samples: &[u8],
+    width: usize,
+    height: usize,
+    reference: usize,
+    n: usize,
+    options: Options,
+    terms: Terms,
+    shifts: &[i32],
+    found: &mut [u8],
+    judged: &mut [u8],
+    words: &mut [u64],
+) -> usize
+    requires { ⌜ (reference < n) × (terms .reach ≤ 64) × Framed width height n (options .percentile) (length (now samples)) (length (now words)) ⌝ }
+    requires { ⌜ Placed (stackIn width height n (now samples) reference options) (now shifts) × (n * suc (2 * terms .reach) ≤ length (now found)) × (n ≤ length (now judged)) ⌝ }
+    ensures { λ r. ⌜ r ≡ recordsNeeded (stackIn width height n (now (samples .entry)) reference options) (termsIn terms) ⌝ }
+    ensures { λ _. ⌜ now (found .exit) ≡ sets (now (found .entry)) 0 (joined n (rowNumbers (stackIn width height n (now (samples .entry)) reference options) (termsIn terms))) ⌝ }
+    ensures { λ _. ⌜ now (judged .exit) ≡ sets (now (judged .entry)) 0 (reports.verdicts (stackIn width height n (now (samples .entry)) reference options) (termsIn terms)) ⌝ }
+    ensures { λ _. ⌜ FreeUpTo (stackNeed n (stepWords width height)) (now (words .entry)) (now (words .exit)) ⌝ }
+{
+    let mut needed: usize = 0;
+    let mut k: usize = 0;
+    while k < n {
+        needed += survey_frame(
+            samples,
+            width,
+            height,
+            reference,
+            n,
+            k,
+            options,
+            terms,
+            shifts,
+            found,
+            judged,
+            words,
+        );
+        k += 1;
+    }
+    needed
+}
+
+// The records of one pair around its step, from `at` on; the answer is where the next one goes.
+fn put_pair(
+    words: &[u64],
+    width: usize,
+    height: usize,
+    step: Shift,
+    terms: Terms,
+    found: &[u8],
+    from: usize,
+    frame: usize,
+    space: &mut [u8],
+    at: usize,
+) -> usize
+    requires { ⌜ TwoPairs (now words) width height × Within 65536 (shiftIn step) × (terms .reach ≤ 64) × (frame < 16) ⌝ }
+    requires { ⌜ (from + suc (2 * terms .reach) ≤ length (now found)) × (take (suc (2 * terms .reach)) (drop from (now found)) ≡ build (suc (2 * terms .reach)) (λ j. length (rowRivals (pairCounts (now words) width height) (shiftIn step) (terms .reach) (terms .floor) (pairCounts (now words) width height (shiftIn step) .disagreeing + terms .margin) j))) ⌝ }
+    requires { ⌜ at + 20 * length (survey (pairCounts (now words) width height) (shiftIn step) (terms .reach) (terms .floor) (pairCounts (now words) width height (shiftIn step) .disagreeing + terms .margin)) ≤ length (now space) ⌝ }
+    ensures { λ r. ⌜ r ≡ at + 20 * length (survey (pairCounts (now (words .entry)) width height) (shiftIn step) (terms .reach) (terms .floor) (pairCounts (now (words .entry)) width height (shiftIn step) .disagreeing + terms .margin)) ⌝ }
+    ensures { λ _. ⌜ now (space .exit) ≡ sets (now (space .entry)) at (bytesOf (pairCounts (now (words .entry)) width height) frame (survey (pairCounts (now (words .entry)) width height) (shiftIn step) (terms .reach) (terms .floor) (pairCounts (now (words .entry)) width height (shiftIn step) .disagreeing + terms .margin))) ⌝ }
+{
+    let counts = counts_at(words, width, height, step);
+    put_rivals(
+        words,
+        width,
+        height,
+        step,
+        terms.reach as usize,
+        terms.floor as u64,
+        counts.disagreeing + terms.margin as u64,
+        found,
+        from,
+        frame,
+        space,
+        at,
+    )
+}
+
+// The records of frame k, from `at` on; the answer is where the next one goes.
+fn put_frame(
+    samples: &[u8],
+    width: usize,
+    height: usize,
+    reference: usize,
+    n: usize,
+    k: usize,
+    options: Options,
+    terms: Terms,
+    shifts: &[i32],
+    found: &[u8],
+    space: &mut [u8],
+    at: usize,
+    words: &mut [u64],
+) -> usize
+    requires { ⌜ (reference < n) × (k < n) × (terms .reach ≤ 64) × Framed width height n (options .percentile) (length (now samples)) (length (now words)) ⌝ }
+    requires { ⌜ Placed (stackIn width height n (now samples) reference options) (now shifts) ⌝ }
+    requires { ⌜ (k * suc (2 * terms .reach) + suc (2 * terms .reach) ≤ length (now found)) × (take (suc (2 * terms .reach)) (drop (k * suc (2 * terms .reach)) (now found)) ≡ rowNumbers (stackIn width height n (now samples) reference options) (termsIn terms) k) ⌝ }
+    requires { ⌜ at + 20 * length (rivals (stackIn width height n (now samples) reference options) (termsIn terms) k) ≤ length (now space) ⌝ }
+    ensures { λ r. ⌜ r ≡ at + 20 * length (rivals (stackIn width height n (now (samples .entry)) reference options) (termsIn terms) k) ⌝ }
+    ensures { λ _. ⌜ now (space .exit) ≡ sets (now (space .entry)) at (recordsBytes (frameRecords (stackIn width height n (now (samples .entry)) reference options) (termsIn terms) k)) ⌝ }
+    ensures { λ _. ⌜ FreeUpTo (stackNeed n (stepWords width height)) (now (words .entry)) (now (words .exit)) ⌝ }
+{
+    if k == reference {
+        return at;
+    }
+    let step = sight(
+        samples,
+        width,
+        height,
+        reference,
+        n,
+        k,
+        options,
+        shifts,
+        words,
+    );
+    let end = 4 * (height * words_per_row(width));
+    let side = 2 * terms.reach as usize + 1;
+    put_pair(
+        &words[0..end],
+        width,
+        height,
+        step,
+        terms,
+        found,
+        k * side,
+        k,
+        space,
+        at,
+    )
+}
+
+// The records of all frames, from the start of the space on.
+fn put_frames(
+    samples: &[u8],
+    width: usize,
+    height: usize,
+    reference: usize,
+    n: usize,
+    options: Options,
+    terms: Terms,
+    shifts: &[i32],
+    found: &[u8],
+    space: &mut [u8],
+    words: &mut [u64],
+)
+    requires { ⌜ (reference < n) × (terms .reach ≤ 64) × Framed width height n (options .percentile) (length (now samples)) (length (now words)) ⌝ }
+    requires { ⌜ Placed (stackIn width height n (now samples) reference options) (now shifts) ⌝ }
+    requires { ⌜ (n * suc (2 * terms .reach) ≤ length (now found)) × (take (n * suc (2 * terms .reach)) (now found) ≡ joined n (rowNumbers (stackIn width height n (now samples) reference options) (termsIn terms))) ⌝ }
+    requires { ⌜ 20 * recordsNeeded (stackIn width height n (now samples) reference options) (termsIn terms) ≤ length (now space) ⌝ }
+    ensures { λ _. ⌜ now (space .exit) ≡ sets (now (space .entry)) 0 (recordsBytes (reports.records (stackIn width height n (now (samples .entry)) reference options) (termsIn terms))) ⌝ }
+    ensures { λ _. ⌜ FreeUpTo (stackNeed n (stepWords width height)) (now (words .entry)) (now (words .exit)) ⌝ }
+{
+    let mut next: usize = 0;
+    let mut k: usize = 0;
+    while k < n {
+        next = put_frame(
+            samples,
+            width,
+            height,
+            reference,
+            n,
+            k,
+            options,
+            terms,
+            shifts,
+            found,
+            space,
+            next,
+            words,
+        );
+        k += 1;
+    }
+}
+
+// ---- the report
+
+// Whether a report is in order up to its scratch, by its frames, its reach and the lengths of its buffers.
+fn report_fits(
+    widths: &[usize],
+    heights: &[usize],
+    percentile: u8,
+    reference: usize,
+    bits: u32,
+    samples: usize,
+    shifts: usize,
+    verdicts: usize,
+    reach: u32,
+    bytes: usize,
+    words: usize,
+) -> Outcome
+    ensures { λ r. ⌜ outcome r ≡ answer (surveyChecks (now (widths .entry)) (now (heights .entry)) percentile reference bits samples shifts verdicts reach bytes words) tt ⌝ }
+{
+    match frames_fit(widths, heights, percentile, reference) {
+        Outcome::Done => {
+            let n = widths.len();
+            let width = widths[0];
+            let height = heights[0];
+            if samples != n * (width * height) {
+                return Outcome::Refused(Error::Length);
+            }
+            if shifts != 2 * n {
+                return Outcome::Refused(Error::Length);
+            }
+            if verdicts != n {
+                return Outcome::Refused(Error::Length);
+            }
+            if reach > 64 {
+                return Outcome::Refused(Error::Reach);
+            }
+            scratch_fits(n, width, height, bits, bytes, words)
+        }
+        Outcome::Refused(error) => Outcome::Refused(error),
+    }
+}
+
+// The first coordinates of a list.
+fn copy_shifts(from: &[i32], out: &mut [i32])
+    requires { ⌜ (length (now out) ≤ length (now from)) × (length (now out) ≤ 32) ⌝ }
+    ensures { λ _. ⌜ now (out .exit) ≡ take (length (now (out .entry))) (now (from .entry)) ⌝ }
+{
+    for k in 0..out.len() {
+        out[k] = from[k];
+    }
+}
+
+// The crop of a shift list that is in order.
+fn crop_of(shifts: &[i32], width: usize, height: usize) -> Rect
+    requires { ⌜ (width ≤ 8192) × (height ≤ 8192) × (length (now shifts) % 2 ≡ 0) ⌝ }
+    ensures { λ r. ⌜ rectIn r ≡ commonCrop (shiftsOf (now (shifts .entry))) width height ⌝ }
+{
+    match common_crop(shifts, width, height) {
+        CropAnswer::Crop(crop) => crop,
+        CropAnswer::Refused(_) => Rect {
+            x: 0,
+            y: 0,
+            width: 0,
+            height: 0,
+        },
+    }
+}
+
+// The shifts, the verdicts and the records go to the caller if the records fit, and nothing does if not.
+fn write_report(
+    samples: &[u8],
+    width: usize,
+    height: usize,
+    reference: usize,
+    n: usize,
+    options: Options,
+    terms: Terms,
+    placed: &[i32],
+    found: &[u8],
+    judged: &[u8],
+    needed: usize,
+    shifts: &mut [i32],
+    verdicts: &mut [u8],
+    records: &mut [u8],
+    words: &mut [u64],
+) -> ReportAnswer
+    requires { ⌜ (reference < n) × (terms .reach ≤ 64) × Framed width height n (options .percentile) (length (now samples)) (length (now words)) ⌝ }
+    requires { ⌜ Placed (stackIn width height n (now samples) reference options) (now placed) ⌝ }
+    requires { ⌜ (n * suc (2 * terms .reach) ≤ length (now found)) × (take (n * suc (2 * terms .reach)) (now found) ≡ joined n (rowNumbers (stackIn width height n (now samples) reference options) (termsIn terms))) ⌝ }
+    requires { ⌜ (n ≤ length (now judged)) × (take n (now judged) ≡ reports.verdicts (stackIn width height n (now samples) reference options) (termsIn terms)) ⌝ }
+    requires { ⌜ (needed ≡ recordsNeeded (stackIn width height n (now samples) reference options) (termsIn terms)) × (length (now shifts) ≡ 2 * n) × (length (now verdicts) ≡ n) ⌝ }
+    ensures answer { λ r. ⌜ reportAnswer r ≡ answer (reportChecks [] (recordsNeeded (stackIn width height n (now (samples .entry)) reference options) (termsIn terms)) (length (now (records .entry)))) (record { crop = reportCrop (stackIn width height n (now (samples .entry)) reference options); records = needed }) ⌝ }
+    ensures shifts { λ _. ⌜ now (shifts .exit) ≡ after (reportChecks [] (recordsNeeded (stackIn width height n (now (samples .entry)) reference options) (termsIn terms)) (length (now (records .entry)))) (listed (stacks.shifts (stackIn width height n (now (samples .entry)) reference options))) (now (shifts .entry)) ⌝ }
+    ensures verdicts { λ _. ⌜ now (verdicts .exit) ≡ after (reportChecks [] (recordsNeeded (stackIn width height n (now (samples .entry)) reference options) (termsIn terms)) (length (now (records .entry)))) (reports.verdicts (stackIn width height n (now (samples .entry)) reference options) (termsIn terms)) (now (verdicts .entry)) ⌝ }
+    ensures records { λ _. ⌜ now (records .exit) ≡ after (reportChecks [] (recordsNeeded (stackIn width height n (now (samples .entry)) reference options) (termsIn terms)) (length (now (records .entry)))) (recordsBytes (reports.records (stackIn width height n (now (samples .entry)) reference options) (termsIn terms)) ++ drop (20 * needed) (now (records .entry))) (now (records .entry)) ⌝ }
+    ensures words { λ _. ⌜ FreeUpTo (stackNeed n (stepWords width height)) (now (words .entry)) (now (words .exit)) ⌝ }
+{
+    if records.len() < 20 * needed {
+        return ReportAnswer::Refused(Error::Records(needed));
+    }
+    put_frames(
+        samples,
+        width,
+        height,
+        reference,
+        n,
+        options,
+        terms,
+        placed,
+        found,
+        records,
+        words,
+    );
+    copy_shifts(placed, shifts);
+    copy_run(judged, 0, verdicts, 0, n);
+    let crop = crop_of(shifts, width, height);
+    ReportAnswer::Reported(Summary {
+        crop,
+        records: needed,
+    })
+}
+
+// The report of a stack that is in order: the walk, then the survey of each frame, and then all that is written. Counting comes
+// before writing, so that a refusal has nothing to undo.
+fn report_within(
+    samples: &[u8],
+    width: usize,
+    height: usize,
+    reference: usize,
+    n: usize,
+    options: Options,
+    terms: Terms,
+    placed: &mut [i32],
+    found: &mut [u8],
+    judged: &mut [u8],
+    shifts: &mut [i32],
+    verdicts: &mut [u8],
+    records: &mut [u8],
+    bytes: &mut [u8],
+    words: &mut [u64],
+) -> ReportAnswer
+    requires { ⌜ (reference < n) × (terms .reach ≤ 64) × Ready width height n (options .percentile) (options .bits) (length (now samples)) (length (now placed)) (length (now bytes)) (length (now words)) ⌝ }
+    requires { ⌜ (n * suc (2 * terms .reach) ≤ length (now found)) × (n ≤ length (now judged)) × (length (now shifts) ≡ 2 * n) × (length (now verdicts) ≡ n) ⌝ }
+    ensures answer { λ r. ⌜ reportAnswer r ≡ answer (reportChecks [] (recordsNeeded (stackIn width height n (now (samples .entry)) reference options) (termsIn terms)) (length (now (records .entry)))) (record { crop = reportCrop (stackIn width height n (now (samples .entry)) reference options); records = recordsNeeded (stackIn width height n (now (samples .entry)) reference options) (termsIn terms) }) ⌝ }
+    ensures shifts { λ _. ⌜ now (shifts .exit) ≡ after (reportChecks [] (recordsNeeded (stackIn width height n (now (samples .entry)) reference options) (termsIn terms)) (length (now (records .entry)))) (listed (stacks.shifts (stackIn width height n (now (samples .entry)) reference options))) (now (shifts .entry)) ⌝ }
+    ensures verdicts { λ _. ⌜ now (verdicts .exit) ≡ after (reportChecks [] (recordsNeeded (stackIn width height n (now (samples .entry)) reference options) (termsIn terms)) (length (now (records .entry)))) (reports.verdicts (stackIn width height n (now (samples .entry)) reference options) (termsIn terms)) (now (verdicts .entry)) ⌝ }
+    ensures records { λ _. ⌜ now (records .exit) ≡ after (reportChecks [] (recordsNeeded (stackIn width height n (now (samples .entry)) reference options) (termsIn terms)) (length (now (records .entry)))) (recordsBytes (reports.records (stackIn width height n (now (samples .entry)) reference options) (termsIn terms)) ++ drop (20 * recordsNeeded (stackIn width height n (now (samples .entry)) reference options) (termsIn terms)) (now (records .entry))) (now (records .entry)) ⌝ }
+    ensures bytes { λ _. ⌜ FreeUpTo (stackNeed n (stepBytes width height (options .bits))) (now (bytes .entry)) (now (bytes .exit)) ⌝ }
+    ensures words { λ _. ⌜ FreeUpTo (stackNeed n (stepWords width height)) (now (words .entry)) (now (words .exit)) ⌝ }
+{
+    walk(
+        samples,
+        width,
+        height,
+        reference,
+        n,
+        options,
+        placed,
+        bytes,
+        words,
+    );
+    let needed = survey_frames(
+        samples,
+        width,
+        height,
+        reference,
+        n,
+        options,
+        terms,
+        placed,
+        found,
+        judged,
+        words,
+    );
+    write_report(
+        samples,
+        width,
+        height,
+        reference,
+        n,
+        options,
+        terms,
+        placed,
+        found,
+        judged,
+        needed,
+        shifts,
+        verdicts,
+        records,
+        words,
+    )
+}
+
+// Every rival of each frame's step, a verdict on each frame (0 reference, 1 weak, 2 alone, 3 contested), the stack's shifts and their
+// crop. Refused: as the stack, 9 before 7, and 10 last, with the number of records needed.
+pub fn report(
+    widths: &[usize],
+    heights: &[usize],
+    samples: &[u8],
+    reference: usize,
+    options: Options,
+    terms: Terms,
+    shifts: &mut [i32],
+    verdicts: &mut [u8],
+    records: &mut [u8],
+    bytes: &mut [u8],
+    words: &mut [u64],
+) -> ReportAnswer
+    ensures answer { λ r. ⌜ reportAnswer r ≡ answer (reportChecks (surveyChecks (now (widths .entry)) (now (heights .entry)) (options .percentile) reference (options .bits) (length (now (samples .entry))) (length (now (shifts .entry))) (length (now (verdicts .entry))) (terms .reach) (length (now (bytes .entry))) (length (now (words .entry)))) (recordsNeeded (stackOf (now (widths .entry)) (now (heights .entry)) (now (samples .entry)) reference (options .percentile) (optionsIn options)) (termsIn terms)) (length (now (records .entry)))) (record { crop = reportCrop (stackOf (now (widths .entry)) (now (heights .entry)) (now (samples .entry)) reference (options .percentile) (optionsIn options)); records = recordsNeeded (stackOf (now (widths .entry)) (now (heights .entry)) (now (samples .entry)) reference (options .percentile) (optionsIn options)) (termsIn terms) }) ⌝ }
+    ensures shifts { λ _. ⌜ now (shifts .exit) ≡ after (reportChecks (surveyChecks (now (widths .entry)) (now (heights .entry)) (options .percentile) reference (options .bits) (length (now (samples .entry))) (length (now (shifts .entry))) (length (now (verdicts .entry))) (terms .reach) (length (now (bytes .entry))) (length (now (words .entry)))) (recordsNeeded (stackOf (now (widths .entry)) (now (heights .entry)) (now (samples .entry)) reference (options .percentile) (optionsIn options)) (termsIn terms)) (length (now (records .entry)))) (listed (stacks.shifts (stackOf (now (widths .entry)) (now (heights .entry)) (now (samples .entry)) reference (options .percentile) (optionsIn options)))) (now (shifts .entry)) ⌝ }
+    ensures verdicts { λ _. ⌜ now (verdicts .exit) ≡ after (reportChecks (surveyChecks (now (widths .entry)) (now (heights .entry)) (options .percentile) reference (options .bits) (length (now (samples .entry))) (length (now (shifts .entry))) (length (now (verdicts .entry))) (terms .reach) (length (now (bytes .entry))) (length (now (words .entry)))) (recordsNeeded (stackOf (now (widths .entry)) (now (heights .entry)) (now (samples .entry)) reference (options .percentile) (optionsIn options)) (termsIn terms)) (length (now (records .entry)))) (reports.verdicts (stackOf (now (widths .entry)) (now (heights .entry)) (now (samples .entry)) reference (options .percentile) (optionsIn options)) (termsIn terms)) (now (verdicts .entry)) ⌝ }
+    ensures records { λ _. ⌜ now (records .exit) ≡ after (reportChecks (surveyChecks (now (widths .entry)) (now (heights .entry)) (options .percentile) reference (options .bits) (length (now (samples .entry))) (length (now (shifts .entry))) (length (now (verdicts .entry))) (terms .reach) (length (now (bytes .entry))) (length (now (words .entry)))) (recordsNeeded (stackOf (now (widths .entry)) (now (heights .entry)) (now (samples .entry)) reference (options .percentile) (optionsIn options)) (termsIn terms)) (length (now (records .entry)))) (recordsBytes (reports.records (stackOf (now (widths .entry)) (now (heights .entry)) (now (samples .entry)) reference (options .percentile) (optionsIn options)) (termsIn terms)) ++ drop (20 * recordsNeeded (stackOf (now (widths .entry)) (now (heights .entry)) (now (samples .entry)) reference (options .percentile) (optionsIn options)) (termsIn terms)) (now (records .entry))) (now (records .entry)) ⌝ }
+    ensures bytes { λ _. ⌜ Scratch (surveyChecks (now (widths .entry)) (now (heights .entry)) (options .percentile) reference (options .bits) (length (now (samples .entry))) (length (now (shifts .entry))) (length (now (verdicts .entry))) (terms .reach) (length (now (bytes .entry))) (length (now (words .entry)))) (stackNeed (length (now (widths .entry))) (stepBytes (getD (now (widths .entry)) 0 0) (getD (now (heights .entry)) 0 0) (options .bits))) (now (bytes .entry)) (now (bytes .exit)) ⌝ }
+    ensures words { λ _. ⌜ Scratch (surveyChecks (now (widths .entry)) (now (heights .entry)) (options .percentile) reference (options .bits) (length (now (samples .entry))) (length (now (shifts .entry))) (length (now (verdicts .entry))) (terms .reach) (length (now (bytes .entry))) (length (now (words .entry)))) (stackNeed (length (now (widths .entry))) (stepWords (getD (now (widths .entry)) 0 0) (getD (now (heights .entry)) 0 0))) (now (words .entry)) (now (words .exit)) ⌝ }
+{
+    match report_fits(
+        widths,
+        heights,
+        options.percentile,
+        reference,
+        options.bits,
+        samples.len(),
+        shifts.len(),
+        verdicts.len(),
+        terms.reach,
+        bytes.len(),
+        words.len(),
+    ) {
+        Outcome::Done => {
+            let width = widths[0];
+            let height = heights[0];
+            // Room for 16 frames: their shifts, the rivals in each row of their windows, and their verdicts.
+            let mut placed = [0i32; 32];
+            let mut found = [0u8; 2064];
+            let mut judged = [0u8; 16];
+            report_within(
+                samples,
+                width,
+                height,
+                reference,
+                widths.len(),
+                options,
+                terms,
+                &mut placed[0..32],
+                &mut found[0..2064],
+                &mut judged[0..16],
+                shifts,
+                verdicts,
+                records,
+                bytes,
+                words,
+            )
+        }
+        Outcome::Refused(error) => ReportAnswer::Refused(error),
+    }
+}
