@@ -6,9 +6,10 @@ use super::bitmap::words_per_row;
 use super::error::Error;
 use super::error::Size;
 use super::error::side_over;
+use super::geometry::Place;
 use super::geometry::Shift;
-use super::geometry::above;
-use super::geometry::below;
+use super::geometry::first_covered;
+use super::geometry::source;
 ghost use mathlib.Core.Path.{_≡_};
 ghost use Prim.Native.Nat.{_+_, _*_, _≤_, _<_, min};
 ghost use lib.ListN.{length};
@@ -356,34 +357,32 @@ pub(crate) fn count(
         countsIn r ≡ counts width height (bitmapsIn width (now (rt .entry)) (now (re .entry))) (bitmapsIn width (now (st .entry)) (now (se .entry))) (shiftIn shift)
         ⌝ }
 {
-    let up = above(shift.y);
-    let down = below(shift.y);
-    if height <= up + down {
+    let row = first_covered(shift.y, height);
+    let Place::Inside(source_row) = source(row, shift.y, height) else {
         return Counts {
             disagreeing: 0,
             compared: 0,
         };
-    }
-    let right = above(shift.x);
-    let left = below(shift.x);
-    if width <= right + left {
+    };
+    let column = first_covered(shift.x, width);
+    let Place::Inside(source_column) = source(column, shift.x, width) else {
         return Counts {
             disagreeing: 0,
             compared: 0,
         };
-    }
+    };
     let n = words_per_row(width);
-    let m = (right + 63) / 64;
-    let rest = m * 64 - right + left;
+    let m = (column + 63) / 64;
+    let rest = m * 64 - column + source_column;
     moved(
         rt,
         re,
         st,
         se,
         n,
-        height - up - down,
-        up * n,
-        down * n,
+        height - row - source_row,
+        row * n,
+        source_row * n,
         m,
         rest / 64,
         rest % 64,
