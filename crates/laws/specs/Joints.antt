@@ -8,9 +8,9 @@ use lib.Bits.{bitAnd, bitXor, differ}
 use lib.ListN.{length, getD}
 use Rattle.definitions.specs.Sum.{sum}
 use Rattle.definitions.specs.Bitmap.{bitOf}
-use Rattle.laws.specs.Bits.{bit-and, bit-xor}
+use Rattle.laws.specs.Bits.{bit-zero, bit-and, bit-xor}
 use Rattle.laws.specs.Grids.{sum-swap}
-use Rattle.laws.specs.Moved.{funnel, part, bit-zero}
+use Rattle.laws.specs.Moved.{funnel, part}
 use Rattle.laws.specs.Sums.{sum-ext, sum-zero, sum-none, sum-more, sum-rows}
 
 -- of the threshold and the exclusion bit of the reference, and those of the target

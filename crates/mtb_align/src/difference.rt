@@ -1,7 +1,6 @@
 // Both counts of two packed pairs at a shift, a word at a time. rt and re are the reference's threshold and exclusion bitmap, st
 // and se the target's, which is the source of what is shown on the reference.
 use super::bitmap::ones_of;
-use super::bitmap::padding;
 use super::bitmap::words_per_row;
 use super::error::Error;
 use super::error::Size;
@@ -12,6 +11,7 @@ use super::geometry::first_covered;
 use super::geometry::source;
 ghost use mathlib.Core.Path.{_≡_};
 ghost use Prim.Native.Nat.{_+_, _*_, _≤_, _<_, min};
+ghost use lib.Dec.{ltb};
 ghost use lib.ListN.{length};
 ghost use Rattle.definitions.specs.Bitmap.{bitmapWords};
 ghost use Rattle.definitions.specs.Difference.{bitmapsIn, counts};
@@ -389,15 +389,25 @@ pub(crate) fn count(
     )
 }
 
-// How many padding bits are set in all four.
-fn paddings(rt: &[u64], re: &[u64], st: &[u64], se: &[u64], width: usize, height: usize) -> u64
+// Some padding bit of the four is set: the last words of all rows are taken together.
+fn padded(rt: &[u64], re: &[u64], st: &[u64], se: &[u64], width: usize, height: usize) -> bool
     requires { ⌜ (width ≤ 8192) × (height ≤ 8192) × Long (now rt) (now re) (now st) (now se) (bitmapWords width height) ⌝ }
-    ensures { λ r. ⌜ r ≡ paddingOf (now (rt .entry)) (now (re .entry)) (now (st .entry)) (now (se .entry)) width height ⌝ }
+    ensures { λ r. ⌜ r ≡ ltb 0 (paddingOf (now (rt .entry)) (now (re .entry)) (now (st .entry)) (now (se .entry)) width height) ⌝ }
 {
-    padding(rt, width, height)
-        + padding(re, width, height)
-        + padding(st, width, height)
-        + padding(se, width, height)
+    let spare = width % 64;
+    if spare == 0 {
+        return false;
+    }
+    let n = words_per_row(width);
+    let mut together: u64 = 0;
+    let mut at = width / 64;
+    let mut y: usize = 0;
+    while y < height {
+        together = together | (rt[at] | re[at] | st[at] | se[at]);
+        at += n;
+        y += 1;
+    }
+    together >> spare > 0
 }
 
 // The reference's pair is width by height, the target's target_width by target_height. Refused: 1 for either size, 4, 2, 8.
@@ -447,16 +457,14 @@ pub fn disagreement(
     if target_exclusion.len() != words {
         return CountsAnswer::Refused(Error::Length);
     }
-    if paddings(
+    if padded(
         reference_threshold,
         reference_exclusion,
         target_threshold,
         target_exclusion,
         width,
         height,
-    )
-        > 0
-    {
+    ) {
         return CountsAnswer::Refused(Error::Padding);
     }
     CountsAnswer::Counted(count(
