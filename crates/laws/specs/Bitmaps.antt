@@ -1,6 +1,6 @@
 -- Packed bitmaps: how many words a row has, the bits of a word by column, one bit of a word changed, the padding, and the set
 -- bits of all words, which are the set pixels where the padding is clear. Assumes nothing.
-use mathlib.Core.Path.{_≡_, refl, sym, ap, ap₂, _∙_}
+use mathlib.Core.Path.{_≡_, refl, sym, ap, ap₂, subst, _∙_}
 use mathlib.Core.Bool.{Bool, cond}
 use mathlib.Core.List.{List}
 use mathlib.Core.Logic.{⊎-elim}
@@ -18,7 +18,7 @@ use Rattle.definitions.specs.Bitmap.{wordsPerRow, bitmapWords, bitOf, wordOf, w
 use Rattle.laws.specs.Bits.{bit-lt, bit-past, bit-zero, bit-shr, bit-or, bit-xor, bit-one-at, bit-one-off}
 use Rattle.laws.specs.Cases.{lt-or-le, eq-or-ne}
 use Rattle.laws.specs.Sizes.{row-inside}
-use Rattle.laws.specs.Sums.{sum-ext, sum-split, sum-upto, sum-zero, sum-rows, sum-none-in}
+use Rattle.laws.specs.Sums.{sum-none, sum-more, sum-ext, sum-split, sum-upto, sum-zero, sum-rows, sum-none-in}
 use Rattle.laws.specs.WordsOf.{word-ext, word-bits, bits-same}
 
 -- ---- the words of a row
@@ -148,7 +148,7 @@ pub record ClearFrom (s v t : ℕ) : Type 0 where
   pub clear : t ≡ 0 → (i : ℕ) → s ≤ i → i < 64 → bitOf v i ≡ 0
   pub none : ((i : ℕ) → s ≤ i → i < 64 → bitOf v i ≡ 0) → t ≡ 0
 
-pub clear-zero : (s : ℕ) → ClearFrom s 0 0
+clear-zero : (s : ℕ) → ClearFrom s 0 0
 clear-zero s = record { fits = pow-pos 64; clear = λ _ i _ _. bit-zero i; none = λ _. refl }
 
 pub clear-or : {s v t v′ t′ : ℕ} → ClearFrom s v t → ClearFrom s v′ t′ → ClearFrom s (bitOr v v′) (t + t′)
@@ -162,7 +162,7 @@ clear-or {s} {v} {t} {v′} {t′} p q = record {
 }
 
 -- so are those of a row's last word past its pixels, by the row's padding
-pub clear-row : (words : List ℕ) (w y : ℕ) → getD words (wordAt w w y) 0 < 2 ^ 64 → (w % 64 ≡ 0 → ⊥) → ClearFrom (w % 64) (getD words (wordAt w w y) 0) (paddingIn words w y)
+clear-row : (words : List ℕ) (w y : ℕ) → getD words (wordAt w w y) 0 < 2 ^ 64 → (w % 64 ≡ 0 → ⊥) → ClearFrom (w % 64) (getD words (wordAt w w y) 0) (paddingIn words w y)
 unfolding wordsPerRow
 clear-row words w y f ne = record {
   fits = f;
@@ -176,6 +176,18 @@ clear-row words w y f ne = record {
       let p : w + i ≡ w / 64 * 64 + (w % 64 + i) = omega arith in
       ap (λ (x : ℕ). bitAt words w x y) p ∙ sym (word-bit words w (w / 64) y (w % 64 + i) (omega arith)) ∙ h (w % 64 + i) (omega arith) (omega arith));
 }
+
+-- and those of the last words of the first rows, taken together
+module _ (words : List ℕ) (w : ℕ) where
+  pub clear-none : ClearFrom (w % 64) 0 (sum 0 (paddingIn words w))
+  clear-none = subst (ClearFrom (w % 64) 0) (sym (sum-none (paddingIn words w))) (clear-zero (w % 64))
+
+  pub clear-more : (w % 64 ≡ 0 → ⊥) → (y at v : ℕ) → at ≡ wordAt w w y → getD words at 0 < 2 ^ 64 → ClearFrom (w % 64) v (sum y (paddingIn words w))
+      → ClearFrom (w % 64) (bitOr v (getD words at 0)) (sum (y + 1) (paddingIn words w))
+  clear-more ne y at v is f p =
+      let row : ClearFrom (w % 64) (getD words at 0) (paddingIn words w y) =
+      subst (λ (k : ℕ). getD words k 0 < 2 ^ 64 → ClearFrom (w % 64) (getD words k 0) (paddingIn words w y)) (sym is) (λ g. clear-row words w y g ne) f in
+      subst (ClearFrom (w % 64) (bitOr v (getD words at 0))) (sym (sum-more y (paddingIn words w))) (clear-or p row)
 
 -- `v >> s > 0`
 pub clear-test : {s v t : ℕ} → ClearFrom s v t → ltb 0 (v / 2 ^ s) ≡ ltb 0 t

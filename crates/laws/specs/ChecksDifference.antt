@@ -1,21 +1,19 @@
 -- The checks of counting two packed pairs: what refuses at each of them, and that else the call is accepted. Assumes nothing.
-use mathlib.Core.Path.{_≡_, refl, sym, ap, ap₂, subst, _∙_}
+use mathlib.Core.Path.{_≡_, refl, sym, ap, ap₂, _∙_}
 use mathlib.Core.Bool.{Bool, true, false, not, _&&_}
 use mathlib.Core.List.{List, [], _∷_}
 use mathlib.Core.Logic.{⊎-elim}
-use Prim.Native.Nat.{ℕ, _+_, _-_, _*_, _%_, _^_, _≤_, _<_}
+use Prim.Native.Nat.{ℕ, _+_, _/_, _^_, _≤_, _<_}
 use native.Mathlib.Omega.{arith}
 use borrow.Author.Tests.{eq-eqb, ne-eqb}
 use lib.Bits.{bitOr}
-use lib.Dec.{eqb}
-use lib.ListN.{length, getD}
-use Rattle.definitions.specs.Sum.{sum}
-use Rattle.definitions.specs.Bitmap.{wordsPerRow, bitmapWords, wordAt, bitAt, paddingSet}
+use lib.Dec.{eqb, ltb}
+use lib.ListN.{length}
+use Rattle.definitions.specs.Bitmap.{bitmapWords, paddingSet}
 use Rattle.definitions.specs.Refusals.{Check, Answer, accepted, refused, answer, eitherOver, sizesDiffer, wrongLength, padded, countingChecks}
-use Rattle.laws.specs.Bitmaps.{IsBitmap, paddingIn, padding-clear, ClearFrom, clear-zero, clear-or, clear-row}
+use Rattle.laws.specs.Bitmaps.{IsBitmap, padding-clear, ClearFrom, clear-or, clear-test}
 use Rattle.laws.specs.Cases.{lt-or-le}
 use Rattle.laws.specs.Checks.{stop, skip, sides-stop, sides-skip, length-stop, length-skip, padded-stop, padded-skip, done}
-use Rattle.laws.specs.Sums.{sum-none, sum-more}
 
 -- ---- sizes that differ
 
@@ -41,29 +39,11 @@ module _ {A : Type 0} (a : A) (w h w′ h′ : ℕ) (l : List Check) where
 abbrev pub paddingOf : (t e t′ e′ : List ℕ) → (w h : ℕ) → ℕ
 paddingOf t e t′ e′ w h = paddingSet t w h + paddingSet e w h + paddingSet t′ w h + paddingSet e′ w h
 
--- of the rows before y, and with row y by the last words of the row together
-unfoldable pub paddingBefore : (t e t′ e′ : List ℕ) → (w y : ℕ) → ℕ
-paddingBefore t e t′ e′ w y = sum y (paddingIn t w) + sum y (paddingIn e w) + sum y (paddingIn t′ w) + sum y (paddingIn e′ w)
-
-module _ (t e t′ e′ : List ℕ) (w : ℕ) where
-  pub before-none : ClearFrom (w % 64) 0 (paddingBefore t e t′ e′ w 0)
-  unfolding paddingBefore
-  before-none = subst (ClearFrom (w % 64) 0) (omega (arith, sum-none (paddingIn t w), sum-none (paddingIn e w), sum-none (paddingIn t′ w), sum-none (paddingIn e′ w))) (clear-zero (w % 64))
-
-  pub before-more : (w % 64 ≡ 0 → ⊥) → (y at v : ℕ) → at ≡ wordAt w w y
-      → getD t at 0 < 2 ^ 64 → getD e at 0 < 2 ^ 64 → getD t′ at 0 < 2 ^ 64 → getD e′ at 0 < 2 ^ 64 → ClearFrom (w % 64) v (paddingBefore t e t′ e′ w y)
-      → ClearFrom (w % 64) (bitOr v (bitOr (bitOr (bitOr (getD t at 0) (getD e at 0)) (getD t′ at 0)) (getD e′ at 0))) (paddingBefore t e t′ e′ w (y + 1))
-  unfolding paddingBefore
-  before-more ne y at v is ft fe ft′ fe′ p =
-      let row : (words : List ℕ) → getD words at 0 < 2 ^ 64 → ClearFrom (w % 64) (getD words at 0) (paddingIn words w y) =
-      λ words f. subst (λ (k : ℕ). getD words k 0 < 2 ^ 64 → ClearFrom (w % 64) (getD words k 0) (paddingIn words w y)) (sym is) (λ g. clear-row words w y g ne) f in
-      subst (ClearFrom (w % 64) (bitOr v (bitOr (bitOr (bitOr (getD t at 0) (getD e at 0)) (getD t′ at 0)) (getD e′ at 0))))
-      (omega (arith, sum-more y (paddingIn t w), sum-more y (paddingIn e w), sum-more y (paddingIn t′ w), sum-more y (paddingIn e′ w)))
-      (clear-or p (clear-or (clear-or (clear-or (row t ft) (row e fe)) (row t′ ft′)) (row e′ fe′)))
-
-  pub before-all : (h : ℕ) → paddingBefore t e t′ e′ w h ≡ paddingOf t e t′ e′ w h
-  unfolding paddingBefore paddingSet
-  before-all h = refl
+-- none is set past bit s of four words together exactly if there is none
+pub paddings-test : (t e t′ e′ : List ℕ) (w h s : ℕ) {a b c d : ℕ}
+    → ClearFrom s a (paddingSet t w h) → ClearFrom s b (paddingSet e w h) → ClearFrom s c (paddingSet t′ w h) → ClearFrom s d (paddingSet e′ w h)
+    → ltb 0 (bitOr (bitOr (bitOr a b) c) d / 2 ^ s) ≡ ltb 0 (paddingOf t e t′ e′ w h)
+paddings-test t e t′ e′ w h s p q r u = clear-test (clear-or (clear-or (clear-or p q) r) u)
 
 all-padded : (t e t′ e′ : List ℕ) → (w h : ℕ) → List Check
 all-padded t e t′ e′ w h = padded t w h ∷ padded e w h ∷ padded t′ w h ∷ padded e′ w h ∷ []
