@@ -638,7 +638,8 @@ fn moved(
     together(inner, edge)
 }
 
-// Both counts of bitmaps whose lengths and padding are in order.
+// Both counts of bitmaps whose lengths and padding are in order. The rows that have a source follow each other, and so do the columns:
+// where the first has none, no other has.
 pub(crate) fn count(
     rt: &[u64],
     re: &[u64],
