@@ -41,20 +41,26 @@ impl Timed {
     }
 }
 
+/// A part of what is timed, by name.
+type Part = (&'static str, fn(&Input) -> Vec<Timed>);
+
 /// Calls timed on every input.
-const CALLS: [fn(&Input) -> Vec<Timed>; 8] = [
-    frames::from_rgb,
-    frames::shrink2,
-    frames::cut_and_bitmaps,
-    frames::count_ones,
-    moves::shifted,
-    counts::disagreement,
-    search::shift,
-    search::align_stack,
+const CALLS: [Part; 8] = [
+    ("from_rgb", frames::from_rgb),
+    ("shrink2", frames::shrink2),
+    ("compute_bitmaps", frames::cut_and_bitmaps),
+    ("count_ones", frames::count_ones),
+    ("shifted", moves::shifted),
+    ("disagreement", counts::disagreement),
+    ("shift", search::shift),
+    ("align_stack", search::align_stack),
 ];
 
 /// Calls whose time has nothing to do with the input.
-const CALLS_ON_ONE: [fn(&Input) -> Vec<Timed>; 2] = [frames::pixels, moves::common_crop];
+const CALLS_ON_ONE: [Part; 2] = [
+    ("pixels", frames::pixels),
+    ("common_crop", moves::common_crop),
+];
 const ONE: Size = (640, 480);
 
 /// How often all is timed, so that no call meets bad weather alone.
@@ -74,9 +80,10 @@ rows, in light that changes by row; flat, 128 throughout. RGB has each sample th
         PASSES * race::ROUNDS
     );
 
-    let mut all = pass();
+    let parts: Vec<String> = std::env::args().skip(1).collect();
+    let mut all = pass(&parts);
     for _ in 1..PASSES {
-        for (timed, again) in all.iter_mut().zip(pass()) {
+        for (timed, again) in all.iter_mut().zip(pass(&parts)) {
             for (time, again) in timed.times.iter_mut().zip(again.times) {
                 *time = time.min(again);
             }
@@ -105,17 +112,19 @@ rows, in light that changes by row; flat, 128 throughout. RGB has each sample th
     }
 }
 
-/// Every call on its inputs, always in the same order.
-fn pass() -> Vec<Timed> {
+/// Every call on its inputs, or only the parts that are named, always in the same order.
+fn pass(parts: &[String]) -> Vec<Timed> {
+    let wanted = |part: &&Part| parts.is_empty() || parts.iter().any(|name| name == part.0);
     let mut all = Vec::new();
     for size in SIZES {
         for kind in Kind::ALL {
             let input = Input::new(size, kind);
-            all.extend(CALLS.iter().flat_map(|call| call(&input)));
+            all.extend(CALLS.iter().filter(wanted).flat_map(|part| part.1(&input)));
         }
     }
     let input = Input::new(ONE, Kind::Noise);
-    all.extend(CALLS_ON_ONE.iter().flat_map(|call| call(&input)));
+    let calls = CALLS_ON_ONE.iter().filter(wanted);
+    all.extend(calls.flat_map(|part| part.1(&input)));
     all
 }
 

@@ -1,25 +1,25 @@
 -- Packed bitmaps: how many words a row has, the bits of a word by column, one bit of a word changed, the padding, and the set
 -- bits of all words, which are the set pixels where the padding is clear. Assumes nothing.
-use mathlib.Core.Path.{_≡_, refl, sym, ap, ap₂, _∙_}
+use mathlib.Core.Path.{_≡_, refl, sym, ap, ap₂, subst, _∙_}
 use mathlib.Core.Bool.{Bool, cond}
 use mathlib.Core.List.{List}
 use mathlib.Core.Logic.{⊎-elim}
 use Prim.Native.Nat.{ℕ, zero, suc, _+_, _-_, _*_, _/_, _%_, _^_, _≤_, _<_, max}
-use native.Mathlib.Nat.{le-trans, mul-le-mul-left, mul-le-mul-right, mod-lt, mod-eq-of-lt}
+use native.Mathlib.Nat.{le-trans, lt-of-le-of-lt, div-le-self, mul-le-mul-left, mul-le-mul-right, mod-lt, mod-eq-of-lt}
 use native.Mathlib.Omega.{arith}
-use borrow.Author.Tests.{eq-eqb, ne-eqb}
+use borrow.Author.Tests.{eq-eqb, ne-eqb, lt-ltb, le-ltb}
 use lib.Bits.{bitAnd, bitOr, bitXor, differ, and-mask, or-lt, xor-lt}
-use lib.Dec.{eqb}
+use lib.Dec.{eqb, ltb}
 use lib.ListN.{length, getD, drop, length-take, length-drop, List·getD-eq-default}
 use lib.Pow.{pow-pos}
 use lib.Seq.{getD-take, getD-drop}
 use Rattle.definitions.specs.Sum.{sum}
 use Rattle.definitions.specs.Bitmap.{wordsPerRow, bitmapWords, bitOf, wordOf, wordAt, bitAt, total, paddingSet, rowOf}
-use Rattle.laws.specs.Bits.{bit-lt, bit-past, bit-shr, bit-or, bit-xor, bit-one-at, bit-one-off}
+use Rattle.laws.specs.Bits.{bit-lt, bit-past, bit-zero, bit-shr, bit-or, bit-xor, bit-one-at, bit-one-off}
 use Rattle.laws.specs.Cases.{lt-or-le, eq-or-ne}
 use Rattle.laws.specs.Sizes.{row-inside}
-use Rattle.laws.specs.Sums.{sum-ext, sum-split, sum-upto, sum-zero, sum-rows, sum-none-in}
-use Rattle.laws.specs.WordsOf.{word-ext, word-bits}
+use Rattle.laws.specs.Sums.{sum-none, sum-more, sum-ext, sum-split, sum-upto, sum-zero, sum-rows, sum-none-in}
+use Rattle.laws.specs.WordsOf.{word-ext, word-bits, bits-same}
 
 -- ---- the words of a row
 
@@ -142,6 +142,79 @@ padding-row words w y f ne =
     bit-shr v s i ∙ word-bit words w (w / 64) y (s + i) (omega arith) ∙ ap (λ (x : ℕ). bitAt words w x y) (sym p))
     ∙ ap (λ (k : ℕ). sum k (λ (i : ℕ). bitAt words w (w + i) y)) e
 
+-- the bits of a word v from s on are clear exactly if t is 0
+pub record ClearFrom (s v t : ℕ) : Type 0 where
+  pub fits : v < 2 ^ 64
+  pub clear : t ≡ 0 → (i : ℕ) → s ≤ i → i < 64 → bitOf v i ≡ 0
+  pub none : ((i : ℕ) → s ≤ i → i < 64 → bitOf v i ≡ 0) → t ≡ 0
+
+clear-zero : (s : ℕ) → ClearFrom s 0 0
+clear-zero s = record { fits = pow-pos 64; clear = λ _ i _ _. bit-zero i; none = λ _. refl }
+
+pub clear-or : {s v t v′ t′ : ℕ} → ClearFrom s v t → ClearFrom s v′ t′ → ClearFrom s (bitOr v v′) (t + t′)
+clear-or {s} {v} {t} {v′} {t′} p q = record {
+  fits = or-lt 64 v v′ (p .fits) (q .fits);
+  clear = λ e i g l. omega (arith, bit-or v v′ i, p .clear (omega arith) i g l, q .clear (omega arith) i g l);
+  none = λ h.
+      let a = p .none (λ i g l. omega (arith, bit-or v v′ i, h i g l)) in
+      let b = q .none (λ i g l. omega (arith, bit-or v v′ i, h i g l)) in
+      omega arith;
+}
+
+-- so are those of a row's last word past its pixels, by the row's padding
+clear-row : (words : List ℕ) (w y : ℕ) → getD words (wordAt w w y) 0 < 2 ^ 64 → (w % 64 ≡ 0 → ⊥) → ClearFrom (w % 64) (getD words (wordAt w w y) 0) (paddingIn words w y)
+unfolding wordsPerRow
+clear-row words w y f ne = record {
+  fits = f;
+  clear = λ e i g l.
+      word-bit words w (w / 64) y i l
+      ∙ ap (λ (x : ℕ). bitAt words w x y) (omega arith)
+      ∙ sum-none-in (wordsPerRow w * 64 - w) (λ (i : ℕ). bitAt words w (w + i) y) e (i - w % 64) (omega arith);
+  none = λ h.
+      sum-zero (wordsPerRow w * 64 - w) (λ (i : ℕ). bitAt words w (w + i) y)
+      (λ i l.
+      let p : w + i ≡ w / 64 * 64 + (w % 64 + i) = omega arith in
+      ap (λ (x : ℕ). bitAt words w x y) p ∙ sym (word-bit words w (w / 64) y (w % 64 + i) (omega arith)) ∙ h (w % 64 + i) (omega arith) (omega arith));
+}
+
+-- and those of the last words of the first rows, taken together
+module _ (words : List ℕ) (w : ℕ) where
+  pub clear-none : ClearFrom (w % 64) 0 (sum 0 (paddingIn words w))
+  clear-none = subst (ClearFrom (w % 64) 0) (sym (sum-none (paddingIn words w))) (clear-zero (w % 64))
+
+  pub clear-more : (w % 64 ≡ 0 → ⊥) → (y at v : ℕ) → at ≡ wordAt w w y → getD words at 0 < 2 ^ 64 → ClearFrom (w % 64) v (sum y (paddingIn words w))
+      → ClearFrom (w % 64) (bitOr v (getD words at 0)) (sum (y + 1) (paddingIn words w))
+  clear-more ne y at v is f p =
+      let row : ClearFrom (w % 64) (getD words at 0) (paddingIn words w y) =
+      subst (λ (k : ℕ). getD words k 0 < 2 ^ 64 → ClearFrom (w % 64) (getD words k 0) (paddingIn words w y)) (sym is) (λ g. clear-row words w y g ne) f in
+      subst (ClearFrom (w % 64) (bitOr v (getD words at 0))) (sym (sum-more y (paddingIn words w))) (clear-or p row)
+
+-- `v >> s > 0`
+pub clear-test : {s v t : ℕ} → ClearFrom s v t → ltb 0 (v / 2 ^ s) ≡ ltb 0 t
+clear-test {s} {v} {t} p = ⊎-elim
+    (λ (h : 0 < t). lt-ltb 0 (v / 2 ^ s) (some h) ∙ sym (lt-ltb 0 t h))
+    (λ (h : t ≤ 0). le-ltb 0 (v / 2 ^ s) (omega (arith, all h)) ∙ sym (le-ltb 0 t h))
+    (lt-or-le 0 t)
+  where
+    all : t ≤ 0 → v / 2 ^ s ≡ 0
+    all h = bits-same 64 (v / 2 ^ s) 0 (lt-of-le-of-lt (div-le-self v (2 ^ s)) (p .fits)) (pow-pos 64) (λ i l. bit-shr v s i ∙ ⊎-elim
+        (λ (k : s + i < 64). p .clear (omega arith) (s + i) (omega arith) k)
+        (λ (k : 64 ≤ s + i). bit-past 64 v (s + i) (p .fits) k)
+        (lt-or-le (s + i) 64)
+        ∙ sym (bit-zero i))
+
+    some : 0 < t → 0 < v / 2 ^ s
+    some h = ⊎-elim
+        (λ (k : 0 < v / 2 ^ s). k)
+        (λ (k : v / 2 ^ s ≤ 0).
+        let z : v / 2 ^ s ≡ 0 = omega arith in
+        let e : t ≡ 0 =
+        p .none (λ i g l.
+        let u : s + (i - s) ≡ i = omega arith in
+        ap (bitOf v) (sym u) ∙ sym (bit-shr v s (i - s)) ∙ ap (λ (x : ℕ). bitOf x (i - s)) z ∙ bit-zero (i - s)) in
+        absurd (omega arith))
+        (lt-or-le 0 (v / 2 ^ s))
+
 -- the words of a bitmap of w by h: as many as it has, with clear padding
 pub record IsBitmap (words : List ℕ) (w h : ℕ) : Type 0 where
   pub long : length words ≡ bitmapWords w h
@@ -203,7 +276,7 @@ row-clear {words} {w} {h} m y l x g = ⊎-elim
     (λ (k : wordsPerRow w * 64 ≤ x).
     let e = row-length words w h y (m .long) l in
     ap (λ (v : ℕ). bitOf v (x % 64)) (List·getD-eq-default {A = ℕ} (rowOf words w y) 0 {n = x / 64} (omega arith))
-    ∙ bit-past 0 0 (x % 64) (omega arith) (omega arith))
+    ∙ bit-zero (x % 64))
     (lt-or-le x (wordsPerRow w * 64))
 
 -- a loop that counts the set columns of f a word at a time: one word more, whose bits are g

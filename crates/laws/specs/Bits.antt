@@ -25,6 +25,9 @@ pub bit-past : (k w i : ℕ) → w < 2 ^ k → k ≤ i → bitOf w i ≡ 0
 unfolding bitOf
 bit-past k w i h l = ap (λ (x : ℕ). x % 2) (div-eq-of-lt (lt-of-lt-of-le h (pow-mono l)))
 
+pub bit-zero : (i : ℕ) → bitOf 0 i ≡ 0
+bit-zero i = bit-past 0 0 i (omega arith) (omega arith)
+
 pub bit-first : (w : ℕ) → bitOf w 0 ≡ w % 2
 unfolding bitOf
 bit-first w = ap (λ (x : ℕ). x % 2) (div-one w)

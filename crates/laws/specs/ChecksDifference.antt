@@ -3,23 +3,17 @@ use mathlib.Core.Path.{_≡_, refl, sym, ap, ap₂, _∙_}
 use mathlib.Core.Bool.{Bool, true, false, not, _&&_}
 use mathlib.Core.List.{List, [], _∷_}
 use mathlib.Core.Logic.{⊎-elim}
-use Prim.Native.Nat.{ℕ, _+_, _-_, _*_, _%_, _≤_, _<_}
+use Prim.Native.Nat.{ℕ, _+_, _/_, _^_, _≤_, _<_}
 use native.Mathlib.Omega.{arith}
 use borrow.Author.Tests.{eq-eqb, ne-eqb}
-use lib.Dec.{eqb}
-use lib.ListN.{length, getD}
-use Rattle.definitions.specs.Sum.{sum}
-use Rattle.definitions.specs.Bitmap.{wordsPerRow, bitmapWords, wordAt, bitAt, paddingSet}
+use lib.Bits.{bitOr}
+use lib.Dec.{eqb, ltb}
+use lib.ListN.{length}
+use Rattle.definitions.specs.Bitmap.{bitmapWords, paddingSet}
 use Rattle.definitions.specs.Refusals.{Check, Answer, accepted, refused, answer, eitherOver, sizesDiffer, wrongLength, padded, countingChecks}
-use Rattle.laws.specs.Bitmaps.{IsBitmap, paddingIn, padding-clear}
-use Rattle.laws.specs.Bits.{bit-lt}
+use Rattle.laws.specs.Bitmaps.{IsBitmap, padding-clear, ClearFrom, clear-or, clear-test}
 use Rattle.laws.specs.Cases.{lt-or-le}
 use Rattle.laws.specs.Checks.{stop, skip, sides-stop, sides-skip, length-stop, length-skip, padded-stop, padded-skip, done}
-use Rattle.laws.specs.Sums.{sum-le, sum-le-one}
-
-pub bit-few : (words : List ℕ) (w x y : ℕ) → bitAt words w x y ≤ 1
-unfolding bitAt
-bit-few words w x y = omega (arith, bit-lt (getD words (wordAt w x y) 0) (x % 64))
 
 -- ---- sizes that differ
 
@@ -42,16 +36,14 @@ module _ {A : Type 0} (a : A) (w h w′ h′ : ℕ) (l : List Check) where
 
 -- ---- the paddings of four bitmaps at once
 
--- less than a word of a row
-pub padding-few : (words : List ℕ) (w h : ℕ) → paddingSet words w h ≤ h * 64
-unfolding paddingSet wordsPerRow
-padding-few words w h = sum-le h 64 (paddingIn words w) (λ y _.
-    let few : sum (wordsPerRow w * 64 - w) (λ (i : ℕ). bitAt words w (w + i) y) ≤ wordsPerRow w * 64 - w =
-    sum-le-one (wordsPerRow w * 64 - w) (λ (i : ℕ). bitAt words w (w + i) y) (λ i _. bit-few words w (w + i) y) in
-    omega arith)
-
 abbrev pub paddingOf : (t e t′ e′ : List ℕ) → (w h : ℕ) → ℕ
 paddingOf t e t′ e′ w h = paddingSet t w h + paddingSet e w h + paddingSet t′ w h + paddingSet e′ w h
+
+-- none is set past bit s of four words together exactly if there is none
+pub paddings-test : (t e t′ e′ : List ℕ) (w h s : ℕ) {a b c d : ℕ}
+    → ClearFrom s a (paddingSet t w h) → ClearFrom s b (paddingSet e w h) → ClearFrom s c (paddingSet t′ w h) → ClearFrom s d (paddingSet e′ w h)
+    → ltb 0 (bitOr (bitOr (bitOr a b) c) d / 2 ^ s) ≡ ltb 0 (paddingOf t e t′ e′ w h)
+paddings-test t e t′ e′ w h s p q r u = clear-test (clear-or (clear-or (clear-or p q) r) u)
 
 all-padded : (t e t′ e′ : List ℕ) → (w h : ℕ) → List Check
 all-padded t e t′ e′ w h = padded t w h ∷ padded e w h ∷ padded t′ w h ∷ padded e′ w h ∷ []

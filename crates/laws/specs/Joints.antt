@@ -3,15 +3,16 @@
 use mathlib.Core.Path.{_≡_, refl, sym, ap, ap₂, subst, _∙_}
 use mathlib.Core.List.{List}
 use Prim.Native.Nat.{ℕ, _+_, _*_, _≤_, _<_, min}
+use native.Mathlib.Nat.{add-mul}
 use native.Mathlib.Omega.{arith}
 use lib.Bits.{bitAnd, bitXor, differ}
 use lib.ListN.{length, getD}
 use Rattle.definitions.specs.Sum.{sum}
 use Rattle.definitions.specs.Bitmap.{bitOf}
-use Rattle.laws.specs.Bits.{bit-and, bit-xor}
+use Rattle.laws.specs.Bits.{bit-lt, bit-zero, bit-and, bit-xor}
 use Rattle.laws.specs.Grids.{sum-swap}
-use Rattle.laws.specs.Moved.{funnel, part, bit-zero}
-use Rattle.laws.specs.Sums.{sum-ext, sum-zero, sum-none, sum-more, sum-rows}
+use Rattle.laws.specs.Moved.{funnel, part}
+use Rattle.laws.specs.Sums.{sum-ext, sum-zero, sum-none, sum-more, sum-split, sum-rows, sum-le-one}
 
 -- of the threshold and the exclusion bit of the reference, and those of the target
 abbrev pub Joint : Type 0
@@ -114,6 +115,19 @@ counted-as {F} {G} {most} {more} {c} {d} q l e = record {
   disagreeing-few = omega (arith, q .disagreeing-few);
 }
 
+-- of equal numbers
+pub counted-is : {F : Joint → ℕ} {most more c d x y : ℕ} → Counted F most c d → most ≤ more → x ≡ c → y ≡ d → Counted F more x y
+counted-is q l ex ey = record {
+  compared-is = ex ∙ q .compared-is;
+  disagreeing-is = ey ∙ q .disagreeing-is;
+  compared-few = omega (arith, q .compared-few);
+  disagreeing-few = omega (arith, q .disagreeing-few);
+}
+
+-- a word has at most 64 bits set
+ones-few : (w : ℕ) → sum 64 (bitOf w) ≤ 64
+ones-few w = sum-le-one 64 (bitOf w) (λ i _. omega (arith, bit-lt w i))
+
 -- with a larger bound, and at an equal number
 pub counted-most : {F : Joint → ℕ} {most more c d : ℕ} → Counted F most c d → most ≤ more → Counted F more c d
 counted-most q l = counted-as q l (λ g _. refl)
@@ -122,6 +136,31 @@ pub counted-at : (F : ℕ → Joint → ℕ) {a b most c d : ℕ} → Counted (F
 counted-at F {a} {b} {most} {c} {d} q e = subst (λ (k : ℕ). Counted (F k) most c d) e q
 
 -- ---- as loops count: none, and one more
+
+-- the pixels of word i of the reference that are compared with what the target shows from word j on, and those of them that disagree
+pub record Showing (p : List ℕ → ℕ → ℕ) (rt re st se : List ℕ) (i j b o : ℕ) : Type 0 where
+  pub both-is : b ≡ bitAnd (getD re i 0) (p se j)
+  pub odd-is : o ≡ bitAnd (bitXor (getD rt i 0) (p st j)) b
+
+module _ (p : List ℕ → ℕ → ℕ) (rt re st se : List ℕ) (i j : ℕ) where
+  pub shows : (s x : ℕ) → s ≡ p st j → x ≡ p se j → let b = bitAnd (getD re i 0) x in Showing p rt re st se i j b (bitAnd (bitXor (getD rt i 0) s) b)
+  shows s x es ex = record { both-is = ap (bitAnd (getD re i 0)) ex; odd-is = ap (λ (v : ℕ). bitAnd (bitXor (getD rt i 0) v) (bitAnd (getD re i 0) x)) es }
+
+  pub shown-counted : (b o : ℕ) → Showing p rt re st se i j b o → Counted (pairAt p rt re st se i j) 64 (sum 64 (bitOf b)) (sum 64 (bitOf o))
+  unfolding pairAt
+  shown-counted b o q =
+      let t = getD rt i 0 in
+      let e = getD re i 0 in
+      record {
+        compared-is = ap (λ (v : ℕ). sum 64 (bitOf v)) (q .both-is) ∙ words-both t e (p st j) (p se j);
+        disagreeing-is = ap (λ (v : ℕ). sum 64 (bitOf v)) (q .odd-is ∙ ap (bitAnd (bitXor t (p st j))) (q .both-is)) ∙ words-odd t e (p st j) (p se j);
+        compared-few = ones-few b;
+        disagreeing-few = ones-few o;
+      }
+
+-- the place k steps after a places are passed
+on : (u a step k : ℕ) → u + (a + k) * step ≡ u + a * step + k * step
+on u a step k = omega (arith, add-mul a k step)
 
 module _ (p : List ℕ → ℕ → ℕ) (rt re st se : List ℕ) (i j step : ℕ) where
   pub run-none : Counted (runSum p rt re st se i j step 0) 0 0 0
@@ -133,24 +172,30 @@ module _ (p : List ℕ → ℕ → ℕ) (rt re st se : List ℕ) (i j step : ℕ
     disagreeing-few = omega arith;
   }
 
-  -- the word at i′, which shows s and x of the target from j′ on
+  -- the word at i′, against the target from j′ on
   pub run-more : (k c d : ℕ) → Counted (runSum p rt re st se i j step k) (k * 64) c d → (i′ j′ : ℕ) → i′ ≡ i + k * step → j′ ≡ j + k * step
-      → (s x : ℕ) → s ≡ p st j′ → x ≡ p se j′ → (a b : ℕ)
-      → (a ≡ sum 64 (bitOf (bitAnd (getD re i′ 0) x))) × (a ≤ 64)
-      → (b ≡ sum 64 (bitOf (bitAnd (bitXor (getD rt i′ 0) s) (bitAnd (getD re i′ 0) x)))) × (b ≤ 64)
-      → Counted (runSum p rt re st se i j step (k + 1)) ((k + 1) * 64) (c + a) (d + b)
-  unfolding runSum pairAt
-  run-more k c d q i′ j′ ei ej s x es ex a b ea eb =
-      let at : (g : Joint) → ofWords g (getD rt i′ 0) (getD re i′ 0) s x ≡ pairAt p rt re st se (i + k * step) (j + k * step) g =
-      λ g. ap₂ (ofWords g (getD rt i′ 0) (getD re i′ 0)) es ex ∙ ap₂ (λ (u v : ℕ). pairAt p rt re st se u v g) ei ej in
+      → (a b : ℕ) → Counted (pairAt p rt re st se i′ j′) 64 a b → Counted (runSum p rt re st se i j step (k + 1)) ((k + 1) * 64) (c + a) (d + b)
+  unfolding runSum
+  run-more k c d q i′ j′ ei ej a b o =
+      let at : (g : Joint) → pairAt p rt re st se i′ j′ g ≡ pairAt p rt re st se (i + k * step) (j + k * step) g =
+      λ g. ap₂ (λ (u v : ℕ). pairAt p rt re st se u v g) ei ej in
       record {
-        compared-is = ap₂ (λ (u v : ℕ). u + v) (q .compared-is) (ea .0 ∙ words-both (getD rt i′ 0) (getD re i′ 0) s x ∙ at both)
+        compared-is = ap₂ (λ (u v : ℕ). u + v) (q .compared-is) (o .compared-is ∙ at both)
             ∙ sym (sum-more k (λ (m : ℕ). pairAt p rt re st se (i + m * step) (j + m * step) both));
-        disagreeing-is = ap₂ (λ (u v : ℕ). u + v) (q .disagreeing-is) (eb .0 ∙ words-odd (getD rt i′ 0) (getD re i′ 0) s x ∙ at odd)
+        disagreeing-is = ap₂ (λ (u v : ℕ). u + v) (q .disagreeing-is) (o .disagreeing-is ∙ at odd)
             ∙ sym (sum-more k (λ (m : ℕ). pairAt p rt re st se (i + m * step) (j + m * step) odd));
-        compared-few = omega (arith, q .compared-few);
-        disagreeing-few = omega (arith, q .disagreeing-few);
+        compared-few = omega (arith, q .compared-few, o .compared-few);
+        disagreeing-few = omega (arith, q .disagreeing-few, o .disagreeing-few);
       }
+
+  -- some words, and those after them
+  pub run-split : (a b : ℕ) (g : Joint) → runSum p rt re st se i j step (a + b) g ≡ runSum p rt re st se i j step a g + runSum p rt re st se (i + a * step) (j + a * step) step b g
+  unfolding runSum
+  run-split a b g =
+      sum-split a b (λ (k : ℕ). pairAt p rt re st se (i + k * step) (j + k * step) g)
+      ∙ ap (λ (t : ℕ). sum a (λ (k : ℕ). pairAt p rt re st se (i + k * step) (j + k * step) g) + t)
+      (sum-ext b (λ (k : ℕ). pairAt p rt re st se (i + (a + k) * step) (j + (a + k) * step) g) (λ (k : ℕ). pairAt p rt re st se (i + a * step + k * step) (j + a * step + k * step) g)
+      (λ k _. ap₂ (λ (u v : ℕ). pairAt p rt re st se u v g) (on i a step k) (on j a step k)))
 
 module _ (p : List ℕ → ℕ → ℕ) (rt re st se : List ℕ) (i j apart step len : ℕ) where
   pub lines-none : Counted (linesSum p rt re st se i j apart step 0 len) 0 0 0
@@ -163,11 +208,11 @@ module _ (p : List ℕ → ℕ → ℕ) (rt re st se : List ℕ) (i j apart step
   }
 
   -- the line from i′ and j′ on
-  pub lines-more : (r c d : ℕ) → len ≤ 8192 → Counted (linesSum p rt re st se i j apart step r len) (r * 524288) c d
-      → (i′ j′ : ℕ) → i′ ≡ i + r * apart → j′ ≡ j + r * apart → (a b : ℕ) → Counted (runSum p rt re st se i′ j′ step len) (len * 64) a b
-      → Counted (linesSum p rt re st se i j apart step (r + 1) len) ((r + 1) * 524288) (c + a) (d + b)
+  pub lines-more : (most r c d : ℕ) → Counted (linesSum p rt re st se i j apart step r len) (r * most) c d
+      → (i′ j′ : ℕ) → i′ ≡ i + r * apart → j′ ≡ j + r * apart → (a b : ℕ) → Counted (runSum p rt re st se i′ j′ step len) most a b
+      → Counted (linesSum p rt re st se i j apart step (r + 1) len) ((r + 1) * most) (c + a) (d + b)
   unfolding linesSum
-  lines-more r c d l q i′ j′ ei ej a b o =
+  lines-more most r c d q i′ j′ ei ej a b o =
       let at : (g : Joint) → runSum p rt re st se i′ j′ step len g ≡ runSum p rt re st se (i + r * apart) (j + r * apart) step len g =
       λ g. ap₂ (λ (u v : ℕ). runSum p rt re st se u v step len g) ei ej in
       record {
@@ -175,9 +220,20 @@ module _ (p : List ℕ → ℕ → ℕ) (rt re st se : List ℕ) (i j apart step
             ∙ sym (sum-more r (λ (m : ℕ). runSum p rt re st se (i + m * apart) (j + m * apart) step len both));
         disagreeing-is = ap₂ (λ (u v : ℕ). u + v) (q .disagreeing-is) (o .disagreeing-is ∙ at odd)
             ∙ sym (sum-more r (λ (m : ℕ). runSum p rt re st se (i + m * apart) (j + m * apart) step len odd));
-        compared-few = omega (arith, q .compared-few, o .compared-few);
-        disagreeing-few = omega (arith, q .disagreeing-few, o .disagreeing-few);
+        compared-few = omega (arith, q .compared-few, o .compared-few, add-mul r 1 most);
+        disagreeing-few = omega (arith, q .disagreeing-few, o .disagreeing-few, add-mul r 1 most);
       }
+
+  -- some lines, and those after them
+  pub lines-split : (a b : ℕ) (g : Joint)
+      → linesSum p rt re st se i j apart step (a + b) len g ≡ linesSum p rt re st se i j apart step a len g + linesSum p rt re st se (i + a * apart) (j + a * apart) apart step b len g
+  unfolding linesSum
+  lines-split a b g =
+      sum-split a b (λ (r : ℕ). runSum p rt re st se (i + r * apart) (j + r * apart) step len g)
+      ∙ ap (λ (t : ℕ). sum a (λ (r : ℕ). runSum p rt re st se (i + r * apart) (j + r * apart) step len g) + t)
+      (sum-ext b (λ (r : ℕ). runSum p rt re st se (i + (a + r) * apart) (j + (a + r) * apart) step len g)
+      (λ (r : ℕ). runSum p rt re st se (i + a * apart + r * apart) (j + a * apart + r * apart) step len g)
+      (λ r _. ap₂ (λ (u v : ℕ). runSum p rt re st se u v step len g) (on i a apart r) (on j a apart r)))
 
   -- by columns or by rows
   pub lines-swap : (lines : ℕ) (g : Joint) → linesSum p rt re st se i j apart step lines len g ≡ linesSum p rt re st se i j step apart len lines g

@@ -3,6 +3,7 @@ pub mod Cases
 pub mod Sums
 pub mod Lists
 pub mod Bits
+pub mod Adders
 pub mod WordsOf
 pub mod Whole
 pub mod Places

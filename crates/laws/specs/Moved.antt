@@ -11,7 +11,7 @@ use borrow.Author.Tests.{lt-ltb, le-ltb}
 use lib.Bits.{bitOr, or-zero-r}
 use lib.Dec.{ltb}
 use Rattle.definitions.specs.Bitmap.{bitOf}
-use Rattle.laws.specs.Bits.{bit-past, bit-shr, bit-shl-low, bit-shl-high, bit-or}
+use Rattle.laws.specs.Bits.{bit-past, bit-zero, bit-shr, bit-shl-low, bit-shl-high, bit-or}
 use Rattle.laws.specs.Bitmaps.{column}
 use Rattle.laws.specs.Cases.{lt-or-le}
 
@@ -97,9 +97,6 @@ pub lined-in : (m : ℕ) (g : ℕ → ℕ) (x u : ℕ) → m * 64 + u ≡ x → 
 lined-in m g x u e =
     let p : x - m * 64 ≡ u = omega arith in
     ap (λ (b : Bool). cond b 0 (g (x - m * 64))) (le-ltb x (m * 64) (omega arith)) ∙ ap g p
-
-pub bit-zero : (i : ℕ) → bitOf 0 i ≡ 0
-bit-zero i = bit-past 0 0 i (omega arith) (omega arith)
 
 -- the line's words hold its columns
 line-column : (m : ℕ) (f : ℕ → ℕ) (x : ℕ) → column (lineWord m f) x ≡ lined m (column f) x

@@ -2,13 +2,15 @@
 -- Assumes nothing.
 use mathlib.Core.Path.{_≡_, refl, sym, ap, _∙_, subst}
 use mathlib.Core.Bool.{Bool, true, false, cond}
-use Prim.Native.Nat.{ℕ, zero, suc, _+_, _-_, _<_, _≤_}
+use mathlib.Core.Logic.{⊎-elim}
+use Prim.Native.Nat.{ℕ, zero, suc, _+_, _-_, _<_, _≤_, min}
 use native.Mathlib.Omega.{arith}
 use native.Mathlib.Decide.{decLt}
 use lib.Dec.{ltb}
 use lib.IntN.{ℤ, pos, negsuc, subℕ, _-ℤ_}
 use borrow.Author.Tests.{lt-ltb, le-ltb, ltb-true}
 use Rattle.definitions.specs.Geometry.{Shift, Source, inside, outside, Inside, indexOf, source, atSource, atSources, ahead, behind}
+use Rattle.laws.specs.Cases.{lt-or-le}
 use Rattle.laws.specs.Whole.{alone, gap, sub-yes, sub-no}
 
 module _ (d : ℕ) (s : ℤ) (e : ℕ) where
@@ -46,6 +48,44 @@ index-lt (negsuc m) e n q = let k : _≡_ {A = ℕ} 0 1 = cc in omega arith
 pub inside-lt : (d : ℕ) (s : ℤ) (e n : ℕ) → source d s e ≡ inside n → n < e
 unfolding source
 inside-lt d s e n q = index-lt (pos d -ℤ s) e n q
+
+-- ---- the first place that a moved side covers: its source is inside exactly if any is
+
+pub record Covering (e : ℕ) (s : ℤ) (first n : ℕ) : Type 0 where
+  pub first-is : first ≡ ahead s
+  pub source-is : n ≡ behind s
+  pub some : ahead s + behind s < e
+
+module _ (e : ℕ) (s : ℤ) (first : ℕ) (is : first ≡ min (ahead s) (e - 1)) where
+  covered : ahead s + behind s < e → source first s e ≡ inside (behind s)
+  covered l = source-inside first s e (behind s) (omega arith) (omega arith)
+
+  uncovered : e ≤ ahead s + behind s → source first s e ≡ outside
+  uncovered l = ⊎-elim
+      (λ (h : first < ahead s). source-before first s e h)
+      (λ (h : ahead s ≤ first). source-past first s e (omega (arith, alone s)))
+      (lt-or-le first (ahead s))
+
+  pub first-inside : (n : ℕ) → source first s e ≡ inside n → Covering e s first n
+  first-inside n q = ⊎-elim
+      (λ (h : ahead s + behind s < e).
+      let o = covered h in
+      let k : n ≡ behind s = cc in
+      record { first-is = omega arith; source-is = k; some = h })
+      (λ (h : e ≤ ahead s + behind s).
+      let o = uncovered h in
+      let k : _≡_ {A = ℕ} 0 1 = cc in
+      absurd (omega arith))
+      (lt-or-le (ahead s + behind s) e)
+
+  pub first-outside : source first s e ≡ outside → e ≤ ahead s + behind s
+  first-outside q = ⊎-elim
+      (λ (h : ahead s + behind s < e).
+      let o = covered h in
+      let k : _≡_ {A = ℕ} 0 1 = cc in
+      absurd (omega arith))
+      (λ (h : e ≤ ahead s + behind s). h)
+      (lt-or-le (ahead s + behind s) e)
 
 -- ---- a place of the frame has its source inside exactly if it lies so far from both ends
 

@@ -3,7 +3,7 @@ use mathlib.Core.Path.{_≡_, refl, sym, ap, ap₂, _∙_, subst}
 use mathlib.Core.Bool.{Bool, true, false, cond, _&&_}
 use mathlib.Core.List.{List, [], _∷_, _++_, map, map-append, append-assoc, append-nil}
 use mathlib.Core.Logic.{⊎-elim}
-use Prim.Native.Nat.{ℕ, zero, suc, _+_, _-_, _*_, _<_, _≤_}
+use Prim.Native.Nat.{ℕ, zero, suc, _+_, _-_, _*_, _%_, _<_, _≤_}
 use native.Mathlib.Nat.{add-zero, eq-or-lt-of-le, mul-le-mul, mul-le-mul-right}
 use native.Mathlib.Numerals.{add-one}
 use native.Mathlib.Omega.{arith}
@@ -13,13 +13,14 @@ use lib.ListN.{length, getD, take, drop, length-append, length-map, length-drop}
 use lib.Seq.{sets, length-sets, getD-take, getD-drop, length-take-le, take-at}
 use Rattle.definitions.specs.Build.{build, joined, image, keepIf}
 use Rattle.definitions.specs.Geometry.{Shift, Source, inside, outside, source, atSource, atSources, origin, offset, listed, ahead, behind}
+use Rattle.definitions.specs.Bitmap.{wordAt, bitAt}
 use Rattle.definitions.specs.Difference.{Counts, bitmapsIn, comparedBit, disagreeingBit, overlap, counts}
 use Rattle.definitions.specs.Align.{Stack, neighbour, stepOf, shiftOf}
 use Rattle.definitions.specs.Report.{Terms, frameCounts, limitOf, rivals, window, isRival, survey, Record, bytes32, twosComplement, recordBytes, recordsBytes}
 use Rattle.definitions.specs.Sum.{sum}
 use Rattle.laws.specs.Members.{joined-sum}
 use Rattle.laws.specs.Sums.{sum-split, sum-first, sum-le, sum-le-one}
-use Rattle.laws.specs.ChecksDifference.{bit-few}
+use Rattle.laws.specs.Bits.{bit-lt}
 use Rattle.laws.specs.Lists.{build-none, build-more, build-is, joined-none, joined-more, joined-at}
 use Rattle.laws.specs.Sizes.{row-inside}
 use Rattle.laws.specs.Writes.{sets-append, sets-front}
@@ -31,6 +32,10 @@ use borrow.Author.Tests.{le-ltb}
 use Rattle.laws.specs.Records.{rivals-none, rivals-survey, bytes-length}
 
 -- ---- both counts are at most the pixels
+
+bit-few : (words : List ℕ) (w x y : ℕ) → bitAt words w x y ≤ 1
+unfolding bitAt
+bit-few words w x y = omega (arith, bit-lt (getD words (wordAt w x y) 0) (x % 64))
 
 -- a bit at the sources of a place
 at-source-few : (a : Source) (f : ℕ → ℕ) → ((u : ℕ) → f u ≤ 1) → atSource a f ≤ 1

@@ -1,16 +1,15 @@
 -- A run of words as a loop counts it, at word k: where the loop stands, what it has counted, and that the words it reads lie inside.
 -- Assumes nothing.
-use mathlib.Core.Path.{_≡_, refl, sym, ap, _∙_}
+use mathlib.Core.Path.{_≡_, refl, sym, ap, ap₂, _∙_}
 use mathlib.Core.List.{List}
 use Prim.Native.Nat.{ℕ, _+_, _-_, _*_, _/_, _%_, _^_, _≤_, _<_, min}
 use native.Mathlib.Nat.{add-mul, mul-le-mul-right}
 use native.Mathlib.Omega.{arith}
-use lib.Bits.{bitAnd, bitXor}
 use lib.ListN.{length, getD}
 use Rattle.definitions.specs.Sum.{sum}
 use Rattle.definitions.specs.Bitmap.{bitOf, wordsPerRow}
 use Rattle.laws.specs.Bitmaps.{IsBitmap, bitmap-most}
-use Rattle.laws.specs.Joints.{Alike, Reaches, LinesReach, Counted, runSum, linesSum, run-none, run-more, lines-none, lines-more, lines-swap, spanned, edged, counted-as, counted-sum}
+use Rattle.laws.specs.Joints.{Alike, Reaches, LinesReach, Counted, Showing, shown-counted, runSum, linesSum, run-none, run-more, run-split, lines-none, lines-more, lines-split, lines-swap, lines-flat, spanned, edged, counted-as, counted-most, counted-is, counted-sum}
 use Rattle.laws.specs.MovedRows.{movedRows, rows-flat, rows-whole, rows-right, rows-left}
 use Rattle.laws.specs.Sizes.{area, row-inside}
 
@@ -50,17 +49,16 @@ module _ (p : List ℕ → ℕ → ℕ) (rt re st se : List ℕ) (i j step len :
           small-se = omega (arith, a);
         }
 
-    pub goes-on : k < len → (s x : ℕ) → s ≡ p st from → x ≡ p se from → {a b : ℕ}
-        → (a ≡ sum 64 (bitOf (bitAnd (getD re at 0) x))) × (a ≤ 64)
-        → (b ≡ sum 64 (bitOf (bitAnd (bitXor (getD rt at 0) s) (bitAnd (getD re at 0) x)))) × (b ≤ 64)
+    -- the ones of the words x and y were counted
+    pub goes-on : k < len → {x y : ℕ} → Showing p rt re st se at from x y → {a b : ℕ} → a ≡ sum 64 (bitOf x) → b ≡ sum 64 (bitOf y)
         → Running p rt re st se i j step len (c + a) (d + b) (at + step) (from + step) (k + 1)
-    goes-on l s x es ex {a} {b} ea eb =
+    goes-on l o {a} {b} ea eb =
         let e : (k + 1) * step ≡ k * step + 1 * step = add-mul k 1 step in
         record {
           within = omega arith;
           at-is = omega (arith, e, q .at-is);
           from-is = omega (arith, e, q .from-is);
-          counted = run-more p rt re st se i j step k c d (q .counted) at from (q .at-is) (q .from-is) s x es ex a b ea eb;
+          counted = run-more p rt re st se i j step k c d (q .counted) at from (q .at-is) (q .from-is) a b (counted-is (shown-counted p rt re st se at from _ _ o) (omega arith) ea eb);
         }
 
     pub ends : len ≤ k → Counted (runSum p rt re st se i j step len) (len * 64) c d
@@ -71,6 +69,9 @@ module _ (p : List ℕ → ℕ → ℕ) (rt re st se : List ℕ) (i j step len :
 -- where so many more words are inside, fewer are
 pub reach-less : {size more less i j step len : ℕ} → Reaches size more i j step len → less ≤ more → Reaches size less i j step len
 reach-less inside l = record { each = λ k h. let o = inside .each k h in (o .0, omega arith) }
+
+pub lines-less : {size more less i j apart step lines len : ℕ} → LinesReach size more i j apart step lines len → less ≤ more → LinesReach size less i j apart step lines len
+lines-less inside l = record { line = λ r h. reach-less (inside .line r h) l }
 
 -- and by columns where by rows
 pub reach-swap : {size more i j apart step lines len : ℕ} → LinesReach size more i j apart step lines len → LinesReach size more i j step apart len lines
@@ -86,46 +87,115 @@ column-inside size n rows i j p q = record { each = λ k h. let o = row-inside n
 pub rectangle-inside : (size more n rows columns i j : ℕ) → i + columns + rows * n ≤ size + n → j + columns + more + rows * n ≤ size + n → LinesReach size more i j n 1 rows columns
 rectangle-inside size more n rows columns i j p q = record { line = λ r h. record { each = λ k l. let o = row-inside n rows r h in (omega arith, omega arith) } }
 
--- ---- a grid of runs, at a line
+-- ---- a grid of runs, at a line; `most` bounds what is counted of one
 
-pub record Ruling (p : List ℕ → ℕ → ℕ) (rt re st se : List ℕ) (i j apart step lines len compared disagreeing at from line : ℕ) : Type 0 where
+pub record Ruling (p : List ℕ → ℕ → ℕ) (rt re st se : List ℕ) (i j apart step lines len most compared disagreeing at from line : ℕ) : Type 0 where
   pub within : line ≤ lines
   pub at-is : at ≡ i + line * apart
   pub from-is : from ≡ j + line * apart
-  pub counted : Counted (linesSum p rt re st se i j apart step line len) (line * 524288) compared disagreeing
+  pub counted : Counted (linesSum p rt re st se i j apart step line len) (line * most) compared disagreeing
 
-module _ (p : List ℕ → ℕ → ℕ) (rt re st se : List ℕ) (i j apart step lines len : ℕ) where
-  pub grid-starts : Ruling p rt re st se i j apart step lines len 0 0 i j 0
-  grid-starts = record { within = omega arith; at-is = omega arith; from-is = omega arith; counted = lines-none p rt re st se i j apart step len }
+module _ (p : List ℕ → ℕ → ℕ) (rt re st se : List ℕ) (i j apart step lines len most : ℕ) where
+  pub grid-starts : Ruling p rt re st se i j apart step lines len most 0 0 i j 0
+  grid-starts = record { within = omega arith; at-is = omega arith; from-is = omega arith; counted = counted-most (lines-none p rt re st se i j apart step len) (omega arith) }
 
-  module _ {c d at from line : ℕ} (q : Ruling p rt re st se i j apart step lines len c d at from line) where
+  module _ {c d at from line : ℕ} (q : Ruling p rt re st se i j apart step lines len most c d at from line) where
     pub grid-run : {size more : ℕ} → LinesReach size more i j apart step lines len → line < lines → Reaches size more at from step len
     grid-run {size} {more} inside l = rw (q .at-is, q .from-is) (inside .line line l)
 
     -- where the line starts
-    pub grid-near : line < lines → lines ≤ 8192 → apart ≤ 8192 → (at ≤ i + 67108864) × (from ≤ j + 67108864)
-    grid-near l a b = (omega (arith, q .at-is, area line apart (omega arith) b), omega (arith, q .from-is, area line apart (omega arith) b))
+    pub grid-near : lines ≤ 8192 → apart ≤ 8192 → (at ≤ i + 67108864) × (from ≤ j + 67108864)
+    grid-near a b =
+        let o = area line apart (omega (arith, q .within)) b in
+        (omega (arith, q .at-is), omega (arith, q .from-is))
 
-    pub grid-goes-on : line < lines → len ≤ 8192 → {a b : ℕ} → Counted (runSum p rt re st se at from step len) (len * 64) a b
-        → Ruling p rt re st se i j apart step lines len (c + a) (d + b) (at + apart) (from + apart) (line + 1)
-    grid-goes-on l n {a} {b} o =
+    pub grid-goes-on : line < lines → {a b : ℕ} → Counted (runSum p rt re st se at from step len) most a b
+        → Ruling p rt re st se i j apart step lines len most (c + a) (d + b) (at + apart) (from + apart) (line + 1)
+    grid-goes-on l {a} {b} o =
         let e : (line + 1) * apart ≡ line * apart + 1 * apart = add-mul line 1 apart in
         record {
           within = omega arith;
           at-is = omega (arith, e, q .at-is);
           from-is = omega (arith, e, q .from-is);
-          counted = lines-more p rt re st se i j apart step len line c d n (q .counted) at from (q .at-is) (q .from-is) a b o;
+          counted = lines-more p rt re st se i j apart step len most line c d (q .counted) at from (q .at-is) (q .from-is) a b o;
         }
 
-    pub grid-ends : lines ≤ line → Counted (linesSum p rt re st se i j apart step lines len) (lines * 524288) c d
+    pub grid-ends : lines ≤ line → Counted (linesSum p rt re st se i j apart step lines len) (lines * most) c d
     grid-ends l =
         let e : line ≡ lines = omega (arith, q .within) in
-        counted-as (q .counted) (omega arith) (λ g _. ap (λ (n : ℕ). linesSum p rt re st se i j apart step n len g) e)
+        counted-as (q .counted) (omega (arith, ap (λ (n : ℕ). n * most) e)) (λ g _. ap (λ (n : ℕ). linesSum p rt re st se i j apart step n len g) e)
 
 -- counted by columns where by rows
-pub by-columns : (p : List ℕ → ℕ → ℕ) (rt re st se : List ℕ) (i j n rows columns : ℕ) {c d : ℕ} → columns ≤ 8192
-    → Counted (linesSum p rt re st se i j 1 n columns rows) (columns * 524288) c d → Counted (linesSum p rt re st se i j n 1 rows columns) 4294967296 c d
-by-columns p rt re st se i j n rows columns l q = counted-as q (omega arith) (λ g _. lines-swap p rt re st se i j 1 n rows columns g)
+pub by-columns : (p : List ℕ → ℕ → ℕ) (rt re st se : List ℕ) (i j n rows columns : ℕ) {most more c d : ℕ} → most ≤ more
+    → Counted (linesSum p rt re st se i j 1 n columns rows) most c d → Counted (linesSum p rt re st se i j n 1 rows columns) more c d
+by-columns p rt re st se i j n rows columns l q = counted-as q l (λ g _. lines-swap p rt re st se i j 1 n rows columns g)
+
+-- ---- seven words, and bands of seven lines
+
+pub seven : (p : List ℕ → ℕ → ℕ) (rt re st se : List ℕ) (i j step : ℕ) {a₀ b₀ a₁ b₁ a₂ b₂ a₃ b₃ a₄ b₄ a₅ b₅ a₆ b₆ x y : ℕ}
+    → Showing p rt re st se i j a₀ b₀
+    → Showing p rt re st se (i + step) (j + step) a₁ b₁
+    → Showing p rt re st se (i + 2 * step) (j + 2 * step) a₂ b₂
+    → Showing p rt re st se (i + 3 * step) (j + 3 * step) a₃ b₃
+    → Showing p rt re st se (i + 4 * step) (j + 4 * step) a₄ b₄
+    → Showing p rt re st se (i + 5 * step) (j + 5 * step) a₅ b₅
+    → Showing p rt re st se (i + 6 * step) (j + 6 * step) a₆ b₆
+    → x ≡ sum 64 (bitOf a₀) + sum 64 (bitOf a₁) + sum 64 (bitOf a₂) + sum 64 (bitOf a₃) + sum 64 (bitOf a₄) + sum 64 (bitOf a₅) + sum 64 (bitOf a₆)
+    → y ≡ sum 64 (bitOf b₀) + sum 64 (bitOf b₁) + sum 64 (bitOf b₂) + sum 64 (bitOf b₃) + sum 64 (bitOf b₄) + sum 64 (bitOf b₅) + sum 64 (bitOf b₆) → Counted (runSum p rt re st se i j step 7) 448 x y
+seven p rt re st se i j step o₀ o₁ o₂ o₃ o₄ o₅ o₆ ex ey =
+    let q₁ = run-more p rt re st se i j step 0 _ _ (run-none p rt re st se i j step) i j (omega arith) (omega arith) _ _ (shown-counted p rt re st se i j _ _ o₀) in
+    let q₂ = run-more p rt re st se i j step 1 _ _ q₁ (i + step) (j + step) (omega arith) (omega arith) _ _ (shown-counted p rt re st se (i + step) (j + step) _ _ o₁) in
+    let q₃ = run-more p rt re st se i j step 2 _ _ q₂ (i + 2 * step) (j + 2 * step) refl refl _ _ (shown-counted p rt re st se (i + 2 * step) (j + 2 * step) _ _ o₂) in
+    let q₄ = run-more p rt re st se i j step 3 _ _ q₃ (i + 3 * step) (j + 3 * step) refl refl _ _ (shown-counted p rt re st se (i + 3 * step) (j + 3 * step) _ _ o₃) in
+    let q₅ = run-more p rt re st se i j step 4 _ _ q₄ (i + 4 * step) (j + 4 * step) refl refl _ _ (shown-counted p rt re st se (i + 4 * step) (j + 4 * step) _ _ o₄) in
+    let q₆ = run-more p rt re st se i j step 5 _ _ q₅ (i + 5 * step) (j + 5 * step) refl refl _ _ (shown-counted p rt re st se (i + 5 * step) (j + 5 * step) _ _ o₅) in
+    let q₇ = run-more p rt re st se i j step 6 _ _ q₆ (i + 6 * step) (j + 6 * step) refl refl _ _ (shown-counted p rt re st se (i + 6 * step) (j + 6 * step) _ _ o₆) in
+    counted-is q₇ (omega arith) (omega arith) (omega arith)
+
+module _ (p : List ℕ → ℕ → ℕ) (rt re st se : List ℕ) (i j apart step lines len most : ℕ) {c d at from line : ℕ} (q : Ruling p rt re st se i j apart step lines len most c d at from line) where
+  -- some lines from there on
+  pub lines-inside : {size more : ℕ} (n : ℕ) → LinesReach size more i j apart step lines len → line + n ≤ lines → LinesReach size more at from apart step n len
+  lines-inside n inside l = record {
+    line = λ r h. record {
+      each = λ k m.
+          let o = inside .line (line + r) (omega arith) .each k m in
+          let e = add-mul line r apart in
+          (omega (arith, q .at-is), omega (arith, q .from-is));
+    };
+  }
+
+  pub lines-counted : (n : ℕ) {a b x y : ℕ} → Counted (linesSum p rt re st se at from apart step n len) (n * most) a b → (x ≡ c + a) × (y ≡ d + b)
+      → Counted (linesSum p rt re st se i j apart step (line + n) len) ((line + n) * most) x y
+  lines-counted n o e = counted-sum (q .counted) o e (omega (arith, add-mul line n most))
+      (λ g _. lines-split p rt re st se i j apart step len line n g
+      ∙ ap (λ (t : ℕ). linesSum p rt re st se i j apart step line len g + t) (ap₂ (λ (u v : ℕ). linesSum p rt re st se u v apart step n len g) (sym (q .at-is)) (sym (q .from-is))))
+
+  pub band-goes-on : line + 7 ≤ lines → {a b : ℕ} → Counted (linesSum p rt re st se at from apart step 7 len) (7 * most) a b
+      → Ruling p rt re st se i j apart step lines len most (c + a) (d + b) (at + 7 * apart) (from + 7 * apart) (line + 7)
+  band-goes-on l o =
+      let e = add-mul line 7 apart in
+      record { within = l; at-is = omega (arith, q .at-is); from-is = omega (arith, q .from-is); counted = lines-counted 7 o (refl, refl) }
+
+  -- and those that are left
+  pub rest-counted : {a b x y : ℕ} → Counted (linesSum p rt re st se at from apart step (lines - line) len) ((lines - line) * most) a b → (x ≡ c + a) × (y ≡ d + b)
+      → Counted (linesSum p rt re st se i j apart step lines len) (lines * most) x y
+  rest-counted o e =
+      let n : line + (lines - line) ≡ lines = omega (arith, q .within) in
+      counted-as (lines-counted (lines - line) o e) (omega (arith, ap (λ (k : ℕ). k * most) n)) (λ g _. ap (λ (k : ℕ). linesSum p rt re st se i j apart step k len g) n)
+
+-- words that follow each other: seven parts, and what is left
+pub parts-inside : (size i j part len : ℕ) → part ≡ len / 7 → i + len ≤ size → j + len ≤ size → LinesReach size 0 i j part 1 7 part
+parts-inside size i j part len e a b = record { line = λ r h. record { each = λ k m. let o = row-inside part 7 r h in (omega arith, omega arith) } }
+
+pub parts-counted : (p : List ℕ → ℕ → ℕ) (rt re st se : List ℕ) (i j part len : ℕ) → part ≡ len / 7 → {a b c d x y : ℕ}
+    → Counted (linesSum p rt re st se i j part 1 7 part) (part * 448) a b → Counted (runSum p rt re st se (i + 7 * part) (j + 7 * part) 1 (len % 7)) (len % 7 * 64) c d
+    → (x ≡ a + c) × (y ≡ b + d) → Counted (runSum p rt re st se i j 1 len) (len * 64) x y
+parts-counted p rt re st se i j part len is o q e =
+    let n : 7 * part + len % 7 ≡ len = omega arith in
+    counted-sum o q e (omega arith) (λ g _.
+    ap (λ (k : ℕ). runSum p rt re st se i j 1 k g) (sym n)
+    ∙ run-split p rt re st se i j 1 (7 * part) (len % 7) g
+    ∙ ap₂ (λ (u v : ℕ). u + v) (sym (lines-flat p rt re st se i j part 7 g)) (ap₂ (λ (u v : ℕ). runSum p rt re st se u v 1 (len % 7) g) (omega arith) (omega arith)))
 
 -- ---- moved rows by a rectangle, and a column at its edge
 

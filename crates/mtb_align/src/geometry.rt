@@ -106,7 +106,7 @@ impl Rect {
 }
 
 // How far a coordinate lies above 0, and 0 below it.
-pub(crate) fn above(coordinate: i32) -> usize
+fn above(coordinate: i32) -> usize
     ensures { λ r. ⌜ r ≡ ahead coordinate ⌝ }
 {
     if coordinate < 0 {
@@ -116,7 +116,7 @@ pub(crate) fn above(coordinate: i32) -> usize
 }
 
 // How far a coordinate lies below 0, and 0 above it.
-pub(crate) fn below(coordinate: i32) -> usize
+fn below(coordinate: i32) -> usize
     ensures { λ r. ⌜ r ≡ behind coordinate ⌝ }
 {
     if coordinate < 0 {
@@ -191,6 +191,13 @@ fn without(a: usize, b: usize) -> usize
         return 0;
     }
     a - b
+}
+
+// The first place along one axis whose source is inside, where any has one; else a place whose source is outside.
+pub(crate) fn first_covered(shift: i32, extent: usize) -> usize
+    ensures { λ r. ⌜ r ≡ min (ahead shift) (extent - 1) ⌝ }
+{
+    smaller(above(shift), without(extent, 1))
 }
 
 // A row of a moved image, written from `at` on: `before` zeros, the run of `n` samples from `from` on, and `past` zeros.

@@ -1,26 +1,26 @@
 -- `mtb_align::difference::aligned` meets its contract. Assumes nothing.
 use native.Mathlib.Omega.{arith}
-use Rattle.mtb_align.proofs.Counting.{run-inside, rectangle-inside, moved-flat, moved-whole}
+use Rattle.mtb_align.proofs.Counting.{rectangle-inside, moved-flat, moved-whole}
 use Rattle.mtb_align.proofs.difference.aligned.Statement.{statement}
 use Rattle.mtb_align.proofs.difference.aligned.Tie as tie
 
 add-if1 : tie.Need-add-if1
 add-if1 c = omega arith
 
-mul-whole-run : tie.Need-mul-whole-run
-mul-whole-run c = let p = c .before .before .before .before .before .pre in omega (arith, p .3, p .0 .small)
+mul-flat : tie.Need-mul-flat
+mul-flat c = let p = c .before .before .before .before .before .pre in omega (arith, p .3, p .0 .small)
 
-whole-run-requires : tie.Need-whole-run-requires
-whole-run-requires c κs =
+flat-requires : tie.Need-flat-requires
+flat-requires c κs =
     let p = c .before .before .before .before .before .pre in
-    (p .0, run-inside _ _ _ _ (p .3) (p .4), omega arith, omega (arith, p .3, p .0 .small))
+    (p .0, p .3, p .4)
 
 returns : tie.Need-returns
 returns c =
     let s = c .before .before .before .before .before .before in
     let x = s .args in
     let p = s .pre in
-    moved-flat (x .rt .now) (x .re .now) (x .st .now) (x .se .now) (x .n) (x .rows) (x .i) (x .j) (x .m) (x .q) (c .before .if1 .taken) (p .1) (p .2) (c .whole-run .ensures)
+    moved-flat (x .rt .now) (x .re .now) (x .st .now) (x .se .now) (x .n) (x .rows) (x .i) (x .j) (x .m) (x .q) (c .before .if1 .taken) (p .1) (p .2) (c .flat .ensures)
 
 add-rectangle : tie.Need-add-rectangle
 add-rectangle c = omega arith
@@ -51,8 +51,8 @@ aligned-spec =
     tie.close
     (tie.spec
     add-if1
-    mul-whole-run
-    whole-run-requires
+    mul-flat
+    flat-requires
     returns
     add-rectangle
     add-rectangle-2

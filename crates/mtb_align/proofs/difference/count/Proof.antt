@@ -1,7 +1,9 @@
 -- `mtb_align::difference::count` meets its contract. Assumes nothing.
-use mathlib.Core.Path.{_≡_, sym, ap, _∙_}
+use mathlib.Core.Path.{_≡_, sym, ap, subst, _∙_}
 use Prim.Native.Nat.{ℕ, _+_, _-_, _*_, _/_, _%_, _^_, _≤_, _<_}
+use borrow.Author.Needs.{needs}
 use native.Mathlib.Omega.{arith}
+use lib.IntN.{ℤ}
 use lib.ListN.{length, getD}
 use mir.Facts.{toZ-ofZ}
 use mir.Syntax.{w32}
@@ -10,111 +12,152 @@ use Rattle.definitions.specs.Geometry.{ahead, behind}
 use Rattle.laws.specs.Bitmaps.{words-most}
 use Rattle.laws.specs.Joints.{Alike}
 use Rattle.laws.specs.Overlaps.{none-down, none-across, counts-words}
+use Rattle.laws.specs.Places.{Covering, first-inside, first-outside}
 use Rattle.laws.specs.Whole.{alone}
-use Rattle.mtb_align.specs.Answers.{shiftIn}
+use Rattle.mtb_align.specs.Answers.{shiftIn, placeIn}
 use Rattle.mtb_align.proofs.Counting.{Split, split, rows-fit, alike}
 use Rattle.mtb_align.proofs.difference.count.Statement.{statement}
 use Rattle.mtb_align.proofs.difference.count.Tie as tie
 
-above-requires : tie.Need-above-requires
-above-requires c κs = tt
+first-covered-requires : tie.Need-first-covered-requires
+first-covered-requires c κs = tt
 
-below-requires : tie.Need-below-requires
-below-requires c κs = tt
+source-requires : tie.Need-source-requires
+source-requires c κs = tt
 
--- the shift's parts
-up-is : (c : tie.After-above) → c .above .result ≡ ahead (c .before .before .before .before .before .before .args .shift .y)
-up-is c =
-    let f : SFits w32 (c .before .before .before .before .before .before .args .shift .y) = record { sfits = c .before .struct-told .given .1 .0 .1 } in
-    c .above .ensures ∙ ap ahead (toZ-ofZ f)
+enum-known-source-row : tie.Need-enum-known-source-row
+enum-known-source-row c = search needs
 
-down-is : (c : tie.After-below) → c .below .result ≡ behind (c .before .before .before .before .before .before .before .before .args .shift .y)
-down-is c =
-    let f : SFits w32 (c .before .before .before .before .before .before .before .before .args .shift .y) = record { sfits = c .before .struct-told2 .given .1 .0 .1 } in
-    c .below .ensures ∙ ap behind (toZ-ofZ f)
+enum-told : tie.Need-enum-told
+enum-told c = search needs
 
-add-if1 : tie.Need-add-if1
-add-if1 c = omega (arith, up-is (c .before .before), down-is c, alone (c .before .before .before .before .before .before .before .before .args .shift .y))
+-- ---- the rows that are covered
+
+abbrev start : tie.After-source → tie.Start
+start c = c .before .before .before .before .before .before .before .before
+
+-- a signed argument is passed by its bits
+y-fits : (c : tie.After-source) → SFits w32 (start c .args .shift .y)
+y-fits c = record { sfits = c .before .before .before .struct-told .given .1 .0 .1 }
+
+rows : (c : tie.After-source-row) →
+    let s = c .before .before in
+    Covering (start s .args .height) (start s .args .shift .y) (s .before .before .first-covered .result) (c .source-row .given .0 .0)
+rows c =
+    let s = c .before .before in
+    let f = s .before .before .first-covered in
+    subst (λ (z : ℤ). Covering (start s .args .height) z (f .result) (c .source-row .given .0 .0)) (toZ-ofZ (y-fits s))
+    (first-inside _ _ _ (f .ensures) _ (sym (s .source .ensures) ∙ ap placeIn (c .source-row .given .1)))
 
 returns : tie.Need-returns
 returns c =
-    let x = c .before .before .before .before .before .before .before .before .before .args in
+    let s = c .before .before in
+    let x = start s .args in
     none-down (x .rt .now) (x .re .now) (x .st .now) (x .se .now) (x .width) (x .height) (shiftIn (x .shift))
-    (omega (arith, up-is (c .before .before .before), down-is (c .before)))
+    (subst (λ (z : ℤ). x .height ≤ ahead z + behind z) (toZ-ofZ (y-fits s))
+    (first-outside _ _ _ (s .before .before .first-covered .ensures) (sym (s .source .ensures) ∙ ap placeIn (c .enum-told .given .1))))
 
-above-requires-2 : tie.Need-above-requires-2
-above-requires-2 c κs = tt
+first-covered-requires-2 : tie.Need-first-covered-requires-2
+first-covered-requires-2 c κs = tt
 
-below-requires-2 : tie.Need-below-requires-2
-below-requires-2 c κs = tt
+source-requires-2 : tie.Need-source-requires-2
+source-requires-2 c κs = tt
 
-right-is : (c : tie.After-above2) → c .above2 .result ≡ ahead (c .before .before .before .before .before .before .before .before .before .before .before .args .shift .x)
-right-is c =
-    let f : SFits w32 (c .before .before .before .before .before .before .before .before .before .before .before .args .shift .x) = record { sfits = c .before .struct-told3 .given .0 .1 } in
-    c .above2 .ensures ∙ ap ahead (toZ-ofZ f)
+enum-known-source-column : tie.Need-enum-known-source-column
+enum-known-source-column c = search needs
 
-left-is : (c : tie.After-below2) → c .below2 .result ≡ behind (c .before .before .before .before .before .before .before .before .before .before .before .before .before .args .shift .x)
-left-is c =
-    let f : SFits w32 (c .before .before .before .before .before .before .before .before .before .before .before .before .before .args .shift .x) = record { sfits = c .before .struct-told4 .given .0 .1 } in
-    c .below2 .ensures ∙ ap behind (toZ-ofZ f)
+enum-told-2 : tie.Need-enum-told-2
+enum-told-2 c = search needs
 
-add-if2 : tie.Need-add-if2
-add-if2 c = omega (arith, right-is (c .before .before), left-is c, alone (c .before .before .before .before .before .before .before .before .before .before .before .before .before .args .shift .x))
+-- ---- the columns that are
+
+abbrev begin : tie.After-source2 → tie.Start
+begin c = start (c .before .before .before .before .before .before .before)
+
+x-fits : (c : tie.After-source2) → SFits w32 (begin c .args .shift .x)
+x-fits c = record { sfits = c .before .before .before .struct-told3 .given .0 .1 }
+
+columns : (c : tie.After-source-column) →
+    let s = c .before .before in
+    Covering (begin s .args .width) (begin s .args .shift .x) (s .before .before .first-covered2 .result) (c .source-column .given .0 .0)
+columns c =
+    let s = c .before .before in
+    let f = s .before .before .first-covered2 in
+    subst (λ (z : ℤ). Covering (begin s .args .width) z (f .result) (c .source-column .given .0 .0)) (toZ-ofZ (x-fits s))
+    (first-inside _ _ _ (f .ensures) _ (sym (s .source2 .ensures) ∙ ap placeIn (c .source-column .given .1)))
 
 returns-2 : tie.Need-returns-2
 returns-2 c =
-    let x = c .before .before .before .before .before .before .before .before .before .before .before .before .before .before .args in
+    let s = c .before .before in
+    let x = begin s .args in
     none-across (x .rt .now) (x .re .now) (x .st .now) (x .se .now) (x .width) (x .height) (shiftIn (x .shift))
-    (omega (arith, right-is (c .before .before .before), left-is (c .before)))
+    (subst (λ (z : ℤ). x .width ≤ ahead z + behind z) (toZ-ofZ (x-fits s))
+    (first-outside _ _ _ (s .before .before .first-covered2 .ensures) (sym (s .source2 .ensures) ∙ ap placeIn (c .enum-told2 .given .1))))
 
 words-per-row-requires : tie.Need-words-per-row-requires
 words-per-row-requires c κs = omega arith
 
+-- ---- past both
+
+module _ (w : tie.After-words-per-row) where
+  abbrev across : tie.After-source-column
+  across = w .before .before
+
+  abbrev down : tie.After-source-row
+  down = across .before .before .before .before .before .before .before
+
+  abbrev s : tie.Start
+  s = start (down .before .before)
+
+  abbrev row : ℕ
+  row = down .before .before .before .before .first-covered .result
+
+  abbrev source-row : ℕ
+  source-row = down .source-row .given .0 .0
+
+  abbrev column : ℕ
+  column = across .before .before .before .before .first-covered2 .result
+
+  abbrev source-column : ℕ
+  source-column = across .source-column .given .0 .0
+
+  near : (row + source-row < s .args .height) × (column + source-column < s .args .width) × (s .args .width ≤ 8192) × (s .args .height ≤ 8192)
+  near = (omega (arith, rows down), omega (arith, columns across), s .pre .0 .0, s .pre .0 .1)
+
+  -- the bitmaps, where the rows start in them, and the shift along a row
+  ready : Alike (s .args .rt .now) (s .args .re .now) (s .args .st .now) (s .args .se .now)
+  ready = alike (s .pre .1) (s .pre .0 .0) (s .pre .0 .1)
+
+  starts : let n = w .words-per-row .result in
+      let rows = s .args .height - row - source-row in
+      (row * n + rows * n ≤ length (s .args .re .now)) × (source-row * n + rows * n ≤ length (s .args .re .now))
+  starts =
+      let e : length (s .args .re .now) ≡ s .args .height * w .words-per-row .result =
+      s .pre .1 .1 .long ∙ ap (λ (n : ℕ). s .args .height * n) (sym (w .words-per-row .ensures)) in
+      (rows-fit _ _ _ _ _ e (omega (arith, near)), rows-fit _ _ _ _ _ e (omega (arith, near)))
+
+  parts : let m = (column + 63) / 64 in
+      let rest = m * 64 - column + source-column in
+      Split (w .words-per-row .result) column source-column m (rest / 64) (rest % 64)
+  parts = split (s .args .width) _ _ _ (w .words-per-row .ensures) (omega (arith, columns across, alone (s .args .shift .x))) (near .1)
+
 add-m : tie.Need-add-m
-add-m c = omega arith
+add-m c = omega (arith, near c)
 
 mul-rest : tie.Need-mul-rest
-mul-rest c = omega arith
+mul-rest c = omega (arith, near c)
 
 sub-rest : tie.Need-sub-rest
 sub-rest c = omega arith
 
 add-rest : tie.Need-add-rest
-add-rest c = omega arith
+add-rest c = omega (arith, near c)
 
 sub-moved : tie.Need-sub-moved
-sub-moved c = omega arith
+sub-moved c = omega (arith, near c)
 
 sub-moved-2 : tie.Need-sub-moved-2
-sub-moved-2 c = omega arith
-
--- the bitmaps, where the rows start in them, and the shift along a row
-ready : (c : tie.After-words-per-row) → let x = c .before .before .before .before .before .before .before .before .before .before .before .before .before .before .before .args in Alike (x .rt .now) (x .re .now) (x .st .now) (x .se .now)
-ready c = let p = c .before .before .before .before .before .before .before .before .before .before .before .before .before .before .before .pre in alike (p .1) (p .0 .0) (p .0 .1)
-
-starts : (c : tie.After-words-per-row) →
-    let x = c .before .before .before .before .before .before .before .before .before .before .before .before .before .before .before .args in
-    let n = c .words-per-row .result in
-    let a = c .before .before .before .before .before .before .before .before .before .above .result in
-    let b = c .before .before .before .before .before .before .before .below .result in
-    let rows = x .height - a - b in
-    (a * n + rows * n ≤ length (x .re .now)) × (b * n + rows * n ≤ length (x .re .now))
-starts c =
-    let s = c .before .before .before .before .before .before .before .before .before .before .before .before .before .before .before in
-    let e : length (s .args .re .now) ≡ s .args .height * c .words-per-row .result =
-    s .pre .1 .1 .long ∙ ap (λ (n : ℕ). s .args .height * n) (sym (c .words-per-row .ensures)) in
-    (rows-fit _ _ _ _ _ e (omega arith), rows-fit _ _ _ _ _ e (omega arith))
-
-across : (c : tie.After-words-per-row) →
-    let right = c .before .before .before .before .above2 .result in
-    let left = c .before .before .below2 .result in
-    let m = (right + 63) / 64 in
-    let rest = m * 64 - right + left in
-    Split (c .words-per-row .result) right left m (rest / 64) (rest % 64)
-across c =
-    let b = c .before .before in
-    let x = c .before .before .before .before .before .before .before .before .before .before .before .before .before .before .before .args in
-    split (x .width) _ _ _ (c .words-per-row .ensures) (omega (arith, right-is (b .before .before), left-is b, alone (x .shift .x))) (omega arith)
+sub-moved-2 c = omega (arith, near c)
 
 mul-moved : tie.Need-mul-moved
 mul-moved c = omega (arith, starts c, ready c .small)
@@ -124,35 +167,37 @@ mul-moved-2 c = omega (arith, starts c, ready c .small)
 
 moved-requires : tie.Need-moved-requires
 moved-requires c κs =
-    let s = c .before .before .before .before .before .before .before .before .before .before .before .before .before .before .before in
-    let n : c .words-per-row .result ≤ 128 = omega (arith, c .words-per-row .ensures, words-most (s .args .width) (s .pre .0 .0)) in
-    let o = across c in
-    (ready c, n, omega arith, starts c .0, starts c .1, o .alone-is, o .right-in, o .left-in, o .few)
+    let n : c .words-per-row .result ≤ 128 = omega (arith, c .words-per-row .ensures, words-most (s c .args .width) (s c .pre .0 .0)) in
+    let o = parts c in
+    (ready c, n, omega (arith, near c), starts c .0, starts c .1, o .alone-is, o .right-in, o .left-in, o .few)
 
 returns-3 : tie.Need-returns-3
 returns-3 c =
     let w = c .before in
-    let s = w .before .before .before .before .before .before .before .before .before .before .before .before .before .before .before in
-    let x = s .args in
-    let p = s .pre .1 in
-    let o = across w in
-    let ft : (v : ℕ) → getD (x .st .now) v 0 < 2 ^ 64 = λ v. omega (arith, w .before .before .before .before .before .before .before .before .before .before .before .before .shared-slice-known3 .given v) in
-    let fe : (v : ℕ) → getD (x .se .now) v 0 < 2 ^ 64 = λ v. omega (arith, w .before .before .before .before .before .before .before .before .before .before .before .shared-slice-known4 .given v) in
+    let x = s w .args in
+    let p = s w .pre .1 in
+    let o = parts w in
+    let known = down w .before .before .before .before .before .before in
+    let ft : (v : ℕ) → getD (x .st .now) v 0 < 2 ^ 64 = λ v. omega (arith, known .before .shared-slice-known3 .given v) in
+    let fe : (v : ℕ) → getD (x .se .now) v 0 < 2 ^ 64 = λ v. omega (arith, known .shared-slice-known4 .given v) in
+    let r = rows (down w) in
     counts-words (x .rt .now) (x .re .now) (x .st .now) (x .se .now) (x .width) (x .height) (shiftIn (x .shift)) (p .1) (p .3) ft fe
-    _ _ _ _ (w .words-per-row .ensures) (up-is (w .before .before .before .before .before .before .before .before .before)) (down-is (w .before .before .before .before .before .before .before)) (omega arith)
-    _ _ _ (o .few) (omega (arith, o .lag, right-is (w .before .before .before .before), left-is (w .before .before))) (c .moved .ensures)
+    _ _ _ _ (w .words-per-row .ensures) (r .first-is) (r .source-is) (omega (arith, near w))
+    _ _ _ (o .few) (omega (arith, o .lag, columns (across w))) (c .moved .ensures)
 
 pub count-spec : {M : Type 1} → statement M
 count-spec =
     tie.close
     (tie.spec
-    above-requires
-    below-requires
-    add-if1
+    first-covered-requires
+    source-requires
+    enum-known-source-row
+    enum-told
     returns
-    above-requires-2
-    below-requires-2
-    add-if2
+    first-covered-requires-2
+    source-requires-2
+    enum-known-source-column
+    enum-told-2
     returns-2
     words-per-row-requires
     add-m

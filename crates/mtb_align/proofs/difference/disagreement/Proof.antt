@@ -2,6 +2,7 @@
 use mathlib.Core.Path.{sym, ap, _∙_}
 use Prim.Native.Nat.{ℕ, _*_, _≤_}
 use native.Mathlib.Omega.{arith}
+use borrow.Author.Tests.{ltb-true, ltb-false}
 use Rattle.laws.specs.Bitmaps.{bitmap-most}
 use Rattle.laws.specs.Checks.{sides-within}
 use Rattle.laws.specs.ChecksDifference.{Sized, Long, long-as, reference-over, target-over, widths-differ, heights-differ, first-long, second-long, third-long, fourth-long, some-padded, all-right, bitmaps}
@@ -68,21 +69,21 @@ long : (c : tie.Else8) →
     Long (x .reference-threshold .now) (x .reference-exclusion .now) (x .target-threshold .now) (x .target-exclusion .now) (x .height * w .words-per-row .result)
 long c = record { first = c .before .before .before .if5 .left; second = c .before .before .if6 .left; third = c .before .if7 .left; fourth = c .if8 .left }
 
-paddings-requires : tie.Need-paddings-requires
-paddings-requires c κs =
+padded-requires : tie.Need-padded-requires
+padded-requires c κs =
     let s = sized (c .before .before .before .before) in
     (s .sides .0, s .sides .1, long-as (long c) (s .words-are))
 
 returns-9 : tie.Need-returns-9
-returns-9 c = some-padded _ _ _ _ _ _ _ _ _ (sized (c .before .before .before .before .before .before)) (long (c .before .before)) (omega (arith, c .before .paddings .ensures))
+returns-9 c = some-padded _ _ _ _ _ _ _ _ _ (sized (c .before .before .before .before .before .before)) (long (c .before .before)) (ltb-true _ _ (sym (c .before .padded .ensures) ∙ c .if9 .taken))
 
 count-requires : tie.Need-count-requires
 count-requires c κs =
     let s = sized (c .before .before .before .before .before .before) in
-    (s .sides, bitmaps _ _ _ _ _ _ _ _ s (long (c .before .before)) (omega (arith, c .before .paddings .ensures)))
+    (s .sides, bitmaps _ _ _ _ _ _ _ _ s (long (c .before .before)) (ltb-false _ _ (sym (c .before .padded .ensures) ∙ c .if9 .left)))
 
 returns-10 : tie.Need-returns-10
-returns-10 c = all-right _ _ _ _ _ _ _ _ _ (sized (c .before .before .before .before .before .before .before)) (long (c .before .before .before)) (omega (arith, c .before .before .paddings .ensures)) (c .count .ensures)
+returns-10 c = all-right _ _ _ _ _ _ _ _ _ (sized (c .before .before .before .before .before .before .before)) (long (c .before .before .before)) (ltb-false _ _ (sym (c .before .before .padded .ensures) ∙ c .before .if9 .left)) (c .count .ensures)
 
 pub disagreement-spec : {M : Type 1} → statement M
 disagreement-spec =
@@ -100,7 +101,7 @@ disagreement-spec =
     returns-6
     returns-7
     returns-8
-    paddings-requires
+    padded-requires
     returns-9
     count-requires
     returns-10)

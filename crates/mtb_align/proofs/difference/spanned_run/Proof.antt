@@ -23,68 +23,29 @@ reads-here c =
     let s = c .before .before .before .before .before .before in
     here _ _ _ _ _ _ _ _ _ (c .before .loop .inv) 1 (s .pre .0) (s .pre .1) (c .loop-test .taken)
 
-add-next : tie.Need-add-next Inv-loop μ-loop
-add-next c = omega (arith, reads-here c)
-
-mul-both : tie.Need-mul-both Inv-loop μ-loop
-mul-both c = omega (arith, reads-here c)
-
-shared-slice-read-both : tie.Need-shared-slice-read-both Inv-loop μ-loop
-shared-slice-read-both c = omega (arith, reads-here (c .before))
-
-mul-joined : tie.Need-mul-joined Inv-loop μ-loop
-mul-joined c = omega (arith, reads-here (c .before))
-
-shared-slice-read-joined : tie.Need-shared-slice-read-joined Inv-loop μ-loop
-shared-slice-read-joined c = omega (arith, reads-here (c .before .before))
-
-mul-joined-2 : tie.Need-mul-joined-2 Inv-loop μ-loop
-mul-joined-2 c = omega (arith, reads-here (c .before .before))
-
-shared-slice-read-joined-2 : tie.Need-shared-slice-read-joined-2 Inv-loop μ-loop
-shared-slice-read-joined-2 c = omega (arith, reads-here (c .before .before .before))
-
-joined-requires : tie.Need-joined-requires Inv-loop μ-loop
-joined-requires c κs = (c .before .before .before .before .before .before .before .before .before .pre .4, c .before .before .before .before .before .before .before .before .before .pre .5)
-
-mul-odd : tie.Need-mul-odd Inv-loop μ-loop
-mul-odd c = omega (arith, reads-here (c .before .before .before .before))
-
-shared-slice-read-odd : tie.Need-shared-slice-read-odd Inv-loop μ-loop
-shared-slice-read-odd c = omega (arith, reads-here (c .before .before .before .before .before))
-
-mul-joined-3 : tie.Need-mul-joined-3 Inv-loop μ-loop
-mul-joined-3 c = omega (arith, reads-here (c .before .before .before .before .before))
-
-shared-slice-read-joined-3 : tie.Need-shared-slice-read-joined-3 Inv-loop μ-loop
-shared-slice-read-joined-3 c = omega (arith, reads-here (c .before .before .before .before .before .before))
-
-mul-joined-4 : tie.Need-mul-joined-4 Inv-loop μ-loop
-mul-joined-4 c = omega (arith, reads-here (c .before .before .before .before .before .before))
-
-shared-slice-read-joined-4 : tie.Need-shared-slice-read-joined-4 Inv-loop μ-loop
-shared-slice-read-joined-4 c = omega (arith, reads-here (c .before .before .before .before .before .before .before))
-
-joined-requires-2 : tie.Need-joined-requires-2 Inv-loop μ-loop
-joined-requires-2 c κs = (c .before .before .before .before .before .before .before .before .before .before .before .before .before .pre .4, c .before .before .before .before .before .before .before .before .before .before .before .before .before .pre .5)
+spanned-word-requires : tie.Need-spanned-word-requires Inv-loop μ-loop
+spanned-word-requires c κs =
+    let p = c .before .before .before .before .before .before .pre in
+    let h = reads-here c in
+    (p .0, h .in-re, omega (arith, h .in-se, p .0 .se-long), p .4, p .5)
 
 ones-of-requires : tie.Need-ones-of-requires Inv-loop μ-loop
 ones-of-requires c κs = tt
 
 add-compared : tie.Need-add-compared Inv-loop μ-loop
-add-compared c = omega (arith, c .before .before .before .before .before .before .before .before .before .before .loop .inv .counted, c .before .before .before .before .before .before .before .before .before .before .before .before .before .before .before .pre)
+add-compared c = omega (arith, c .before .before .before .loop .inv .counted, c .before .before .before .before .before .before .before .before .pre)
 
 ones-of-requires-2 : tie.Need-ones-of-requires-2 Inv-loop μ-loop
 ones-of-requires-2 c κs = tt
 
 add-disagreeing : tie.Need-add-disagreeing Inv-loop μ-loop
-add-disagreeing c = omega (arith, c .before .before .before .before .before .before .before .before .before .before .before .loop .inv .counted, c .before .before .before .before .before .before .before .before .before .before .before .before .before .before .before .before .pre)
+add-disagreeing c = omega (arith, c .before .before .before .before .loop .inv .counted, c .before .before .before .before .before .before .before .before .before .pre)
 
 add-at : tie.Need-add-at Inv-loop μ-loop
-add-at c = omega (arith, reads-here (c .before .before .before .before .before .before .before .before .before .before), c .before .before .before .before .before .before .before .before .before .before .before .before .before .before .before .before .pre)
+add-at c = omega (arith, reads-here (c .before .before .before), c .before .before .before .before .before .before .before .before .before .pre)
 
 add-from : tie.Need-add-from Inv-loop μ-loop
-add-from c = omega (arith, reads-here (c .before .before .before .before .before .before .before .before .before .before), c .before .before .before .before .before .before .before .before .before .before .before .before .before .before .before .before .pre)
+add-from c = omega (arith, reads-here (c .before .before .before), c .before .before .before .before .before .before .before .before .before .pre)
 
 add-k : tie.Need-add-k Inv-loop μ-loop
 add-k c = omega arith
@@ -93,11 +54,7 @@ loop-less : tie.Need-loop-less Inv-loop μ-loop
 loop-less c = omega arith
 
 loop-again : tie.Need-loop-again Inv-loop μ-loop
-loop-again c =
-    let l = c .before .before .before .before .before .before .before .before .before .before .before in
-    let x = c .before .before .before .before .before .before .joined in
-    let s = c .before .before .joined2 in
-    goes-on _ _ _ _ _ _ _ _ _ (l .loop .inv) (c .before .before .before .before .before .before .before .before .before .before .loop-test .taken) (s .result) (x .result) (s .ensures) (x .ensures) (c .before .ones-of .ensures) (c .ones-of2 .ensures)
+loop-again c = goes-on _ _ _ _ _ _ _ _ _ (c .before .before .before .before .loop .inv) (c .before .before .before .loop-test .taken) (c .before .before .spanned-word .ensures) (c .before .ones-of .ensures .0) (c .ones-of2 .ensures .0)
 
 returns : tie.Need-returns Inv-loop μ-loop
 returns c = ends _ _ _ _ _ _ _ _ _ (c .before .loop .inv) (c .loop-test .left)
@@ -109,21 +66,7 @@ spanned-run-spec =
     Inv-loop
     μ-loop
     loop-holds
-    add-next
-    mul-both
-    shared-slice-read-both
-    mul-joined
-    shared-slice-read-joined
-    mul-joined-2
-    shared-slice-read-joined-2
-    joined-requires
-    mul-odd
-    shared-slice-read-odd
-    mul-joined-3
-    shared-slice-read-joined-3
-    mul-joined-4
-    shared-slice-read-joined-4
-    joined-requires-2
+    spanned-word-requires
     ones-of-requires
     add-compared
     ones-of-requires-2

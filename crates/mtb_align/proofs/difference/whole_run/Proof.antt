@@ -1,10 +1,7 @@
 -- `mtb_align::difference::whole_run` meets its contract. The loop has counted the first k words. Assumes nothing.
-use mathlib.Core.Path.{sym}
-use Prim.Native.Nat.{_+_, _-_}
+use Prim.Native.Nat.{_-_}
 use native.Mathlib.Omega.{arith}
-use lib.ListN.{getD}
 use Rattle.laws.specs.Joints.{spanned}
-use Rattle.laws.specs.Moved.{funnel-none}
 use Rattle.mtb_align.proofs.Counting.{Running, Here, starts, here, goes-on, ends}
 use Rattle.mtb_align.proofs.difference.whole_run.Statement.{statement}
 use Rattle.mtb_align.proofs.difference.whole_run.Tie as tie
@@ -26,47 +23,29 @@ reads-here c =
     let s = c .before .before .before .before .before .before in
     here _ _ _ _ _ _ _ _ _ (c .before .loop .inv) 0 (s .pre .0) (s .pre .1) (c .loop-test .taken)
 
-mul-both : tie.Need-mul-both Inv-loop μ-loop
-mul-both c = omega (arith, reads-here c)
-
-shared-slice-read-both : tie.Need-shared-slice-read-both Inv-loop μ-loop
-shared-slice-read-both c = omega (arith, reads-here (c .before))
-
-mul-both-2 : tie.Need-mul-both-2 Inv-loop μ-loop
-mul-both-2 c = omega (arith, reads-here (c .before))
-
-shared-slice-read-both-2 : tie.Need-shared-slice-read-both-2 Inv-loop μ-loop
-shared-slice-read-both-2 c = omega (arith, reads-here (c .before .before))
-
-mul-odd : tie.Need-mul-odd Inv-loop μ-loop
-mul-odd c = omega (arith, reads-here (c .before .before))
-
-shared-slice-read-odd : tie.Need-shared-slice-read-odd Inv-loop μ-loop
-shared-slice-read-odd c = omega (arith, reads-here (c .before .before .before))
-
-mul-odd-2 : tie.Need-mul-odd-2 Inv-loop μ-loop
-mul-odd-2 c = omega (arith, reads-here (c .before .before .before))
-
-shared-slice-read-odd-2 : tie.Need-shared-slice-read-odd-2 Inv-loop μ-loop
-shared-slice-read-odd-2 c = omega (arith, reads-here (c .before .before .before .before))
+whole-word-requires : tie.Need-whole-word-requires Inv-loop μ-loop
+whole-word-requires c κs =
+    let p = c .before .before .before .before .before .before .pre in
+    let h = reads-here c in
+    (p .0, h .in-re, omega (arith, h .in-se, p .0 .se-long))
 
 ones-of-requires : tie.Need-ones-of-requires Inv-loop μ-loop
 ones-of-requires c κs = tt
 
 add-compared : tie.Need-add-compared Inv-loop μ-loop
-add-compared c = omega (arith, c .before .before .before .before .before .before .loop .inv .counted, c .before .before .before .before .before .before .before .before .before .before .before .pre)
+add-compared c = omega (arith, c .before .before .before .loop .inv .counted, c .before .before .before .before .before .before .before .before .pre)
 
 ones-of-requires-2 : tie.Need-ones-of-requires-2 Inv-loop μ-loop
 ones-of-requires-2 c κs = tt
 
 add-disagreeing : tie.Need-add-disagreeing Inv-loop μ-loop
-add-disagreeing c = omega (arith, c .before .before .before .before .before .before .before .loop .inv .counted, c .before .before .before .before .before .before .before .before .before .before .before .before .pre)
+add-disagreeing c = omega (arith, c .before .before .before .before .loop .inv .counted, c .before .before .before .before .before .before .before .before .before .pre)
 
 add-at : tie.Need-add-at Inv-loop μ-loop
-add-at c = omega (arith, reads-here (c .before .before .before .before .before .before), c .before .before .before .before .before .before .before .before .before .before .before .before .pre)
+add-at c = omega (arith, reads-here (c .before .before .before), c .before .before .before .before .before .before .before .before .before .pre)
 
 add-from : tie.Need-add-from Inv-loop μ-loop
-add-from c = omega (arith, reads-here (c .before .before .before .before .before .before), c .before .before .before .before .before .before .before .before .before .before .before .before .pre)
+add-from c = omega (arith, reads-here (c .before .before .before), c .before .before .before .before .before .before .before .before .before .pre)
 
 add-k : tie.Need-add-k Inv-loop μ-loop
 add-k c = omega arith
@@ -75,15 +54,7 @@ loop-less : tie.Need-loop-less Inv-loop μ-loop
 loop-less c = omega arith
 
 loop-again : tie.Need-loop-again Inv-loop μ-loop
-loop-again c =
-    let l = c .before .before .before .before .before .before .before in
-    let x = l .before .before .before .before .before .args in
-    let from = l .loop .from in
-    let st = x .st .now in
-    let se = x .se .now in
-    goes-on _ _ _ _ _ _ _ _ _ (l .loop .inv) (c .before .before .before .before .before .before .loop-test .taken) (getD st from 0) (getD se from 0)
-    (sym (funnel-none (getD st from 0) (getD st (from + 1) 0))) (sym (funnel-none (getD se from 0) (getD se (from + 1) 0)))
-    (c .before .ones-of .ensures) (c .ones-of2 .ensures)
+loop-again c = goes-on _ _ _ _ _ _ _ _ _ (c .before .before .before .before .loop .inv) (c .before .before .before .loop-test .taken) (c .before .before .whole-word .ensures) (c .before .ones-of .ensures .0) (c .ones-of2 .ensures .0)
 
 returns : tie.Need-returns Inv-loop μ-loop
 returns c = ends _ _ _ _ _ _ _ _ _ (c .before .loop .inv) (c .loop-test .left)
@@ -95,14 +66,7 @@ whole-run-spec =
     Inv-loop
     μ-loop
     loop-holds
-    mul-both
-    shared-slice-read-both
-    mul-both-2
-    shared-slice-read-both-2
-    mul-odd
-    shared-slice-read-odd
-    mul-odd-2
-    shared-slice-read-odd-2
+    whole-word-requires
     ones-of-requires
     add-compared
     ones-of-requires-2
