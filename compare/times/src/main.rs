@@ -1,10 +1,11 @@
 //! Times the original and the port in one run on the same inputs and prints a table
-//! for each call.
+//! for each call. Arguments name the calls that are timed; without any, all are.
 
 mod counts;
 mod frames;
 mod inputs;
 mod moves;
+mod original;
 mod race;
 mod search;
 
@@ -41,31 +42,47 @@ impl Timed {
     }
 }
 
+/// Calls by the name that an argument gives.
+type Call = (&'static str, fn(&Input) -> Vec<Timed>);
+
 /// Calls timed on every input.
-const CALLS: [fn(&Input) -> Vec<Timed>; 8] = [
-    frames::from_rgb,
-    frames::shrink2,
-    frames::cut_and_bitmaps,
-    frames::count_ones,
-    moves::shifted,
-    counts::disagreement,
-    search::shift,
-    search::align_stack,
+const CALLS: [Call; 8] = [
+    ("from_rgb", frames::from_rgb),
+    ("shrink2", frames::shrink2),
+    (frames::COMPUTE_BITMAPS, frames::cut_and_bitmaps), // and threshold, in one race
+    ("count_ones", frames::count_ones),
+    ("shifted", moves::shifted),
+    ("disagreement", counts::disagreement),
+    ("shift", search::shift),
+    ("align_stack", search::align_stack),
 ];
 
 /// Calls whose time has nothing to do with the input.
-const CALLS_ON_ONE: [fn(&Input) -> Vec<Timed>; 2] = [frames::pixels, moves::common_crop];
+const CALLS_ON_ONE: [Call; 2] = [
+    ("pixels", frames::pixels), // get and set
+    ("common_crop", moves::common_crop),
+];
 const ONE: Size = (640, 480);
 
 /// How often all is timed, so that no call meets bad weather alone.
 const PASSES: usize = 4;
 
 fn main() {
+    let named: Vec<String> = std::env::args().skip(1).collect();
+    let known = || CALLS.iter().chain(&CALLS_ON_ONE).map(|(name, _)| *name);
+    if let Some(other) = named.iter().find(|name| known().all(|call| call != *name)) {
+        let known: Vec<&str> = known().collect();
+        eprintln!("no call {other}; there are {}", known.join(", "));
+        std::process::exit(2);
+    }
+    let is_timed = |call: &Call| named.is_empty() || named.iter().any(|name| name == call.0);
+
     println!(
         "Nanoseconds of processor time per call, the least of {} rounds in which both sides
 take turns.
-Both are built for release without overflow checks. The original allocates its answer
-in every call and frees it, the port writes to buffers made before.
+Both are built for release without overflow checks and called by C's convention, never
+inlined. The original allocates its answer in every call and frees it, the port writes
+to buffers made before.
 The ratio is original to port; `<` marks one below the goal.
 Packing alone is compute_bitmaps less threshold on the port's side, and the whole of
 compute_bitmaps on the original's. Percentile 50, tolerance 4.
@@ -74,9 +91,9 @@ rows, in light that changes by row; flat, 128 throughout. RGB has each sample th
         PASSES * race::ROUNDS
     );
 
-    let mut all = pass();
+    let mut all = pass(is_timed);
     for _ in 1..PASSES {
-        for (timed, again) in all.iter_mut().zip(pass()) {
+        for (timed, again) in all.iter_mut().zip(pass(is_timed)) {
             for (time, again) in timed.times.iter_mut().zip(again.times) {
                 *time = time.min(again);
             }
@@ -105,17 +122,20 @@ rows, in light that changes by row; flat, 128 throughout. RGB has each sample th
     }
 }
 
-/// Every call on its inputs, always in the same order.
-fn pass() -> Vec<Timed> {
+/// The calls on their inputs, always in the same order.
+fn pass(is_timed: impl Fn(&Call) -> bool) -> Vec<Timed> {
     let mut all = Vec::new();
+    let mut time = |calls: &[Call], input: &Input| {
+        for call in calls.iter().filter(|call| is_timed(call)) {
+            all.extend(call.1(input));
+        }
+    };
     for size in SIZES {
         for kind in Kind::ALL {
-            let input = Input::new(size, kind);
-            all.extend(CALLS.iter().flat_map(|call| call(&input)));
+            time(&CALLS, &Input::new(size, kind));
         }
     }
-    let input = Input::new(ONE, Kind::Noise);
-    all.extend(CALLS_ON_ONE.iter().flat_map(|call| call(&input)));
+    time(&CALLS_ON_ONE, &Input::new(ONE, Kind::Noise));
     all
 }
 
