@@ -153,7 +153,8 @@ pub fn pixels(input: &Input) -> Vec<Timed> {
         },
         &mut || {
             for &(x, y) in &places {
-                let lent = Bitmap::new(black_box(&words), width, height);
+                let words = black_box(&words);
+                let lent = Bitmap::new(words, width, height);
                 accepted(port::get(lent, x, y, &mut pixel));
                 black_box(pixel);
             }

@@ -30,7 +30,7 @@ fn count_one(lanes: &mut [u32; 1024], lane: usize, sample: u8)
 }
 
 // Four samples, each into a lane of its own, so that no count waits for the one before it. How a value's count is spread over
-// the lanes is left open on purpose, here and in `tally_row`: only the total of the four is read.
+// the lanes is left open on purpose, here and in `tally`: only the total of the four is read.
 fn count_four(lanes: &mut [u32; 1024], samples: &[u8], at: usize)
     requires { ⌜ Tally (now lanes) (now samples) at × (length (now samples) ≤ 67108864) × (at + 4 ≤ length (now samples)) ⌝ }
     ensures { λ _. ⌜ Tally (now (lanes .exit)) (now (samples .entry)) (at + 4) ⌝ }
@@ -41,18 +41,17 @@ fn count_four(lanes: &mut [u32; 1024], samples: &[u8], at: usize)
     count_one(lanes, 768, samples[at + 3]);
 }
 
-// The lanes count the samples before `from`, and then n more.
-fn tally_row(lanes: &mut [u32; 1024], samples: &[u8], from: usize, n: usize)
-    requires { ⌜ Tally (now lanes) (now samples) from × (length (now samples) ≤ 67108864) × (from + n ≤ length (now samples)) ⌝ }
-    ensures { λ _. ⌜ Tally (now (lanes .exit)) (now (samples .entry)) (from + n) ⌝ }
+// All samples, into lanes that count none yet.
+fn tally(lanes: &mut [u32; 1024], samples: &[u8])
+    requires { ⌜ Tally (now lanes) (now samples) 0 × (length (now samples) ≤ 67108864) ⌝ }
+    ensures { λ _. ⌜ Tally (now (lanes .exit)) (now (samples .entry)) (length (now (samples .entry))) ⌝ }
 {
-    let end = from + n;
-    let mut at = from;
-    while end - at >= 4 {
+    let mut at: usize = 0;
+    while samples.len() - at >= 4 {
         count_four(lanes, samples, at);
         at += 4;
     }
-    while at < end {
+    while at < samples.len() {
         count_one(lanes, 0, samples[at]);
         at += 1;
     }
@@ -63,7 +62,7 @@ fn lane_total(lanes: &[u32; 1024], v: usize) -> u64
     requires { ⌜ (v < 256) × (laneTotal (now lanes) v ≤ 67108864) ⌝ }
     ensures { λ r. ⌜ r ≡ laneTotal (now (lanes .entry)) v ⌝ }
 {
-    lanes[v] as u64 + lanes[256 + v] as u64 + lanes[512 + v] as u64 + lanes[768 + v] as u64
+    (lanes[v] + lanes[256 + v] + lanes[512 + v] + lanes[768 + v]) as u64
 }
 
 // The four lanes as one.
@@ -81,18 +80,12 @@ fn fold_lanes(lanes: &[u32; 1024]) -> [u64; 256]
 }
 
 // How many samples have each of the 256 values.
-pub(crate) fn histogram(samples: &[u8], width: usize, height: usize) -> [u64; 256]
-    requires { ⌜ (width ≤ 8192) × (height ≤ 8192) × (length (now samples) ≡ width * height) ⌝ }
+pub(crate) fn histogram(samples: &[u8]) -> [u64; 256]
+    requires { ⌜ length (now samples) ≤ 67108864 ⌝ }
     ensures { λ r. ⌜ r ≡ bins (now (samples .entry)) ⌝ }
 {
     let mut lanes = [0u32; 1024];
-    let mut from: usize = 0;
-    let mut y: usize = 0;
-    while y < height {
-        tally_row(&mut lanes, samples, from, width);
-        from += width;
-        y += 1;
-    }
+    tally(&mut lanes, samples);
     fold_lanes(&lanes)
 }
 
@@ -114,12 +107,12 @@ pub(crate) fn bins_added(bins: [u64; 256], goal: u64) -> u16
 }
 
 // The cut of a frame whose size and percentile were checked.
-pub(crate) fn cut_of(samples: &[u8], width: usize, height: usize, percentile: u8) -> u16
-    requires { ⌜ (width ≤ 8192) × (height ≤ 8192) × (length (now samples) ≡ width * height) × (percentile ≤ 100) ⌝ }
+pub(crate) fn cut_of(samples: &[u8], percentile: u8) -> u16
+    requires { ⌜ (length (now samples) ≤ 67108864) × (percentile ≤ 100) ⌝ }
     ensures { λ r. ⌜ r ≡ cut (now (samples .entry)) percentile ⌝ }
 {
     let goal = samples.len() as u64 * percentile as u64 / 100;
-    bins_added(histogram(samples, width, height), goal)
+    bins_added(histogram(samples), goal)
 }
 
 // The sample value that the bitmaps are cut at, 0 to 256. Refused: 1, 2, 3.
@@ -135,7 +128,7 @@ pub fn threshold(samples: &[u8], width: usize, height: usize, percentile: u8) ->
     if percentile > 100 {
         return CutAnswer::Refused(Error::Percentile);
     }
-    CutAnswer::Cut(cut_of(samples, width, height, percentile))
+    CutAnswer::Cut(cut_of(samples, percentile))
 }
 
 // Both bitmaps of a frame, each in its buffer: a threshold bit where the sample lies above the cut, an exclusion bit where it lies
@@ -173,7 +166,7 @@ pub fn compute_bitmaps(
         samples,
         width,
         height,
-        cut_of(samples, width, height, percentile),
+        cut_of(samples, percentile),
         tolerance,
         threshold,
         exclusion,

@@ -11,6 +11,7 @@ use Rattle.definitions.specs.Bitmap.{bitmapWords}
 use Rattle.definitions.specs.Align.{refine, tried}
 use Rattle.definitions.specs.Refusals.{FreeUpTo}
 use Rattle.laws.specs.Bitmaps.{bitmap-most}
+use Rattle.laws.specs.Sizes.{area}
 use Rattle.mtb_align.specs.Answers.{shiftIn}
 use Rattle.mtb_align.specs.Search.{FourMaps, costIn, exposureOf}
 use Rattle.mtb_align.proofs.Four.{fourOf, four-length, four-stored, four-front, four-free, four-maps, four-costs}
@@ -67,13 +68,17 @@ mul-n : tie.Need-mul-n
 mul-n c = omega (arith, few c)
 
 cut-of-requires : tie.Need-cut-of-requires
-cut-of-requires c κs = search needs
+cut-of-requires c κs =
+    let s = c .before .before .before .before in
+    (omega (arith, s .pre .4, area (s .args .width) (s .args .height) (s .pre .0) (s .pre .1)), s .pre .2)
 
 pack-at-requires : tie.Need-pack-at-requires
 pack-at-requires c κs = search needs
 
 cut-of-requires-2 : tie.Need-cut-of-requires-2
-cut-of-requires-2 c κs = search needs
+cut-of-requires-2 c κs =
+    let s = c .before .before .before .before .before .before .before .before .before in
+    (omega (arith, s .pre .5, area (s .args .width) (s .args .height) (s .pre .0) (s .pre .1)), s .pre .3)
 
 mul-pack-at : tie.Need-mul-pack-at
 mul-pack-at c = omega (arith, few (c .before .before .before .before .before .before .before))

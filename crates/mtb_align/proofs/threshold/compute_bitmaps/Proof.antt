@@ -74,7 +74,7 @@ cut-of-requires : tie.Need-cut-of-requires
 cut-of-requires c κs =
     let b = c .before .before .before in
     let s = within (b .before .before) in
-    (s .0, s .1, b .before .if2 .left, c .if5 .left)
+    (omega (arith, b .before .if2 .left, area _ _ (s .0) (s .1)), c .if5 .left)
 
 pack-requires : tie.Need-pack-requires
 pack-requires c κs =

@@ -9,22 +9,17 @@ use lib.ListN.{length, getD}
 use Rattle.definitions.specs.Sum.{sum}
 use Rattle.definitions.specs.Threshold.{bins, target, binsAdded, cut}
 use Rattle.laws.specs.Cut.{Bytes, bins-sum}
-use Rattle.laws.specs.Sizes.{area}
 use Rattle.mtb_align.proofs.threshold.cut_of.Statement.{statement}
 use Rattle.mtb_align.proofs.threshold.cut_of.Tie as tie
 
--- the samples are few
-few : (s : tie.Start) → length (s .args .samples .now) ≤ 67108864
-few s = omega (arith, area (s .args .width) (s .args .height) (s .pre .0) (s .pre .1))
-
--- and so is what their bins add up to
+-- the bins of few samples add up to as few
 bins-few : (s r : List ℕ) → r ≡ bins s → Bytes s → length s ≤ 67108864 → sum 256 (λ i. getD r i 0) ≤ 67108864
 bins-few s r e b h = rw e (omega (arith, bins-sum s b))
 
 mul-goal : tie.Need-mul-goal
 mul-goal c =
     let s = c .before in
-    omega (arith, few s, mul-le-mul-left (length (s .args .samples .now)) (s .pre .3))
+    omega (arith, mul-le-mul-left (length (s .args .samples .now)) (s .pre .1))
 
 histogram-requires : tie.Need-histogram-requires
 histogram-requires c κs = search needs
@@ -32,7 +27,7 @@ histogram-requires c κs = search needs
 bins-added-requires : tie.Need-bins-added-requires
 bins-added-requires c κs =
     let s = c .before .before in
-    bins-few (s .args .samples .now) (c .histogram .result) (c .histogram .ensures) (λ i h. omega (arith, c .before .shared-slice-known .given i)) (few s)
+    bins-few (s .args .samples .now) (c .histogram .result) (c .histogram .ensures) (λ i h. omega (arith, c .before .shared-slice-known .given i)) (s .pre .0)
 
 returns : tie.Need-returns
 unfolding cut target

@@ -32,7 +32,7 @@ unfolding cutChecks
 returns-3 c = sides-skip _ _ _ _ (within (c .before .before)) (length-skip _ _ _ _ (c .before .if2 .left) (percentile-stop _ _ _ (c .if3 .taken)))
 
 cut-of-requires : tie.Need-cut-of-requires
-cut-of-requires c κs = let s = within (c .before .before) in (s .0, s .1, c .before .if2 .left, c .if3 .left)
+cut-of-requires c κs = let s = within (c .before .before) in (omega (arith, c .before .if2 .left, area _ _ (s .0) (s .1)), c .if3 .left)
 
 returns-4 : tie.Need-returns-4
 unfolding cutChecks

@@ -1,18 +1,19 @@
--- `mtb_align::threshold::tally_row` meets its contract. The lanes count the samples before `at`, in both loops. Assumes nothing.
+-- `mtb_align::threshold::tally` meets its contract. The lanes count the samples before `at`, in both loops. Assumes nothing.
 use mathlib.Core.Path.{_≡_, refl}
-use Prim.Native.Nat.{_+_, _-_, _≤_}
+use Prim.Native.Nat.{_-_, _≤_}
 use native.Mathlib.Omega.{arith}
+use lib.ListN.{length}
 use Rattle.laws.specs.Cut.{Bytes}
 use Rattle.mtb_align.specs.Tally.{Tally}
 use Rattle.mtb_align.proofs.Lanes.{lane-0, tally-fits, tally-more}
-use Rattle.mtb_align.proofs.threshold.tally_row.Statement.{statement}
-use Rattle.mtb_align.proofs.threshold.tally_row.Tie as tie
+use Rattle.mtb_align.proofs.threshold.tally.Statement.{statement}
+use Rattle.mtb_align.proofs.threshold.tally.Tie as tie
 
 abbrev Inv-loop : tie.InvT-loop
-Inv-loop lanes₀ samples from n end at₀ lanes at = (at ≤ end) × Tally lanes samples at
+Inv-loop lanes₀ samples at₀ lanes at = (at ≤ length samples) × Tally lanes samples at
 
 abbrev μ-loop : tie.MeasureT-loop
-μ-loop lanes₀ samples from n end at₀ lanes at = end - at
+μ-loop lanes₀ samples at₀ lanes at = length samples - at
 
 abbrev Inv-loop2 : tie.InvT-loop2
 Inv-loop2 = Inv-loop
@@ -23,9 +24,6 @@ abbrev μ-loop2 : tie.MeasureT-loop2
 -- the samples are bytes
 small : (c : tie.After-shared-slice-known2 Inv-loop μ-loop Inv-loop2 μ-loop2) → Bytes (c .before .before .before .before .before .before .before .args .samples .now)
 small c i h = omega (arith, c .shared-slice-known2 .given i)
-
-add-end : tie.Need-add-end Inv-loop μ-loop Inv-loop2 μ-loop2
-add-end c = omega arith
 
 loop-holds : tie.Need-loop-holds Inv-loop μ-loop Inv-loop2 μ-loop2
 loop-holds c = (omega arith, c .before .pre .0)
@@ -71,18 +69,17 @@ returns : tie.Need-returns Inv-loop μ-loop Inv-loop2 μ-loop2
 returns c =
     let x = c .before .before .before .before .before .args in
     let l = c .before .loop2 in
-    let e : l .at ≡ x .from + x .n = omega arith in
+    let e : l .at ≡ length (x .samples .now) = omega arith in
     rw e at (l .inv .1)
 
-pub tally-row-spec : {M : Type 1} → statement M
-tally-row-spec =
+pub tally-spec : {M : Type 1} → statement M
+tally-spec =
     tie.close
     (tie.spec
     Inv-loop
     μ-loop
     Inv-loop2
     μ-loop2
-    add-end
     loop-holds
     sub-loop
     count-four-requires
