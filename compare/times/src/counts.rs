@@ -57,7 +57,7 @@ pub fn disagreement(input: &Input) -> Vec<Timed> {
                 },
                 &mut || {
                     let counts = (&mut disagreeing, &mut compared);
-                    let (reference, shift) = (black_box(pair), Shift::new(x, 0));
+                    let (reference, shift) = (*black_box(&pair), Shift::new(x, 0));
                     accepted(port::disagreement(
                         reference, pair, shift, counts.0, counts.1,
                     ));

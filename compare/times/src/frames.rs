@@ -36,7 +36,10 @@ pub fn from_rgb(input: &Input) -> Vec<Timed> {
             let rgb = black_box(&rgb);
             accepted(original::from_rgb(rgb.as_ptr(), rgb.len(), width, height));
         },
-        &mut || accepted(port::from_rgb(black_box(&rgb), width, height, &mut out)),
+        &mut || {
+            let rgb = black_box(&rgb);
+            accepted(port::from_rgb(rgb, width, height, &mut out));
+        },
     ]);
     vec![timed("from_rgb", 1.0, input, times)]
 }
@@ -49,7 +52,7 @@ pub fn shrink2(input: &Input) -> Vec<Timed> {
         let subsampled = mode == Shrink::Subsample;
         race([
             &mut || accepted(original::shrink2(black_box(&gray), subsampled)),
-            &mut || accepted(port::shrink2(black_box(frame), mode, &mut out)),
+            &mut || accepted(port::shrink2(*black_box(&frame), mode, &mut out)),
         ])
     };
     let average = times(Shrink::Average);
@@ -75,14 +78,14 @@ pub fn cut_and_bitmaps(input: &Input) -> Vec<Timed> {
             let gray = black_box(&gray);
             accepted(original::threshold(gray, PERCENTILE, &mut cut_there));
         },
-        &mut || accepted(port::threshold(black_box(frame), PERCENTILE, &mut cut)),
+        &mut || accepted(port::threshold(*black_box(&frame), PERCENTILE, &mut cut)),
         &mut || {
             let gray = black_box(&gray);
             accepted(original::compute_bitmaps(gray, PERCENTILE, TOLERANCE));
         },
         &mut || {
             accepted(port::compute_bitmaps(
-                black_box(frame),
+                *black_box(&frame),
                 PERCENTILE,
                 TOLERANCE,
                 &mut threshold,
@@ -127,7 +130,7 @@ pub fn count_ones(input: &Input) -> Vec<Timed> {
             let bitmap = black_box(&bitmap);
             accepted(original::count_ones(bitmap, &mut total_there));
         },
-        &mut || accepted(port::count_ones(black_box(lent), &mut total)),
+        &mut || accepted(port::count_ones(*black_box(&lent), &mut total)),
     ]);
     vec![timed("count_ones", 1.0, input, times)]
 }
@@ -142,6 +145,7 @@ pub fn pixels(input: &Input) -> Vec<Timed> {
     let per_call = |times: [f64; 2]| times.map(|time| time / places.len() as f64);
 
     let (mut bitmap, mut words) = bitmaps(input);
+    let lent = Bitmap::new(&words, width, height);
     let [mut pixel_there, mut pixel] = [false; 2];
     let get = race([
         &mut || {
@@ -153,9 +157,7 @@ pub fn pixels(input: &Input) -> Vec<Timed> {
         },
         &mut || {
             for &(x, y) in &places {
-                let words = black_box(&words);
-                let lent = Bitmap::new(words, width, height);
-                accepted(port::get(lent, x, y, &mut pixel));
+                accepted(port::get(*black_box(&lent), x, y, &mut pixel));
                 black_box(pixel);
             }
         },

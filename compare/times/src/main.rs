@@ -42,7 +42,8 @@ impl Timed {
     }
 }
 
-/// Calls by the name that an argument gives.
+/// Calls by the name that an argument gives. Each side meets its input through one
+/// pointer that the compiler cannot see through.
 type Call = (&'static str, fn(&Input) -> Vec<Timed>);
 
 /// Calls timed on every input.

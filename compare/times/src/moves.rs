@@ -21,7 +21,7 @@ pub fn shifted(input: &Input) -> Vec<Timed> {
             let gray = black_box(&gray);
             accepted(original::shifted(gray, shift.x, shift.y));
         },
-        &mut || accepted(port::shifted(black_box(frame), shift, &mut out)),
+        &mut || accepted(port::shifted(*black_box(&frame), shift, &mut out)),
     ]);
     vec![timed("shifted", 1.0, input, times)]
 }

@@ -69,7 +69,6 @@ pub extern "C" fn shifted(gray: &Gray, x: i32, y: i32) -> u32 {
 
 #[inline(never)]
 #[unsafe(export_name = "original_common_crop")]
-#[expect(clippy::too_many_arguments)] // the port's
 pub extern "C" fn common_crop(
     shifts: *const Shift,
     shifts_length: usize,
@@ -101,7 +100,6 @@ pub extern "C" fn disagreement(
 
 #[inline(never)]
 #[unsafe(export_name = "original_shift")]
-#[expect(clippy::too_many_arguments)] // the port's
 pub extern "C" fn shift(
     reference: &Gray,
     target: &Gray,

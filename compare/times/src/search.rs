@@ -65,7 +65,7 @@ pub fn shift(input: &Input) -> Vec<Timed> {
         },
         &mut || {
             accepted(port::shift(
-                black_box(reference),
+                *black_box(&reference),
                 target,
                 &OPTIONS,
                 (&mut bytes, &mut words),
@@ -107,7 +107,7 @@ pub fn align_stack(input: &Input) -> Vec<Timed> {
                 },
                 &mut || {
                     let scratch = (&mut bytes[..], &mut words[..]);
-                    let stack = black_box(stack);
+                    let stack = *black_box(&stack);
                     accepted(port::align_stack(stack, &OPTIONS, &mut shifts, scratch));
                 },
             ]);
