@@ -1,7 +1,7 @@
-//! The original's calls as a caller of C's convention meets the port's: functions that
-//! are never inlined, with the port's arguments, that put numbers where they are told
-//! and give a status back. An object of the original's stands for a list with its sides,
-//! since the original lends no list to make one of. An answer that it allocates is freed
+//! The original's calls as a caller meets the port's: functions of C's convention that
+//! are never inlined, take what the port's take, put numbers where they are told and
+//! give a status back. An object of the original's stands for a list and its sides, as
+//! the original makes none of a list that is lent. An answer that it allocates is freed
 //! at once. Its checks are its own.
 
 use std::hint::black_box;
