@@ -4,12 +4,14 @@ use std::hint::black_box;
 
 use ::port::counts as port;
 use ::port::frames as packing;
-use mtb_align::{Percentile, Shift, compute_bitmaps};
+use mtb_align::{Percentile, compute_bitmaps};
 use naive::bitmap::words_needed;
 use naive::difference::Pair;
+use naive::geometry::Shift;
 
 use crate::frames::{PERCENTILE, TOLERANCE, accepted, frame, gray};
 use crate::inputs::Input;
+use crate::original;
 use crate::race::race;
 use crate::{Timed, timed};
 
@@ -45,16 +47,17 @@ pub fn disagreement(input: &Input) -> Vec<Timed> {
     let shifts = SHIFTS.into_iter().chain([half]);
     shifts
         .map(|(name, x)| {
-            let (by, shift) = (Shift::new(x, 0), naive::geometry::Shift::new(x, 0));
-            let [mut disagreeing, mut compared] = [0; 2];
+            let [mut there, mut disagreeing, mut compared] = [0; 3];
             let times = race([
                 &mut || {
                     let reference = black_box(&bitmaps);
-                    _ = black_box(mtb_align::disagreement(reference, &bitmaps, by));
+                    accepted(original::disagreement(
+                        reference, &bitmaps, x, 0, &mut there,
+                    ));
                 },
                 &mut || {
                     let counts = (&mut disagreeing, &mut compared);
-                    let reference = black_box(pair);
+                    let (reference, shift) = (*black_box(&pair), Shift::new(x, 0));
                     accepted(port::disagreement(
                         reference, pair, shift, counts.0, counts.1,
                     ));

@@ -10,6 +10,7 @@ use naive::shrink::Shrink;
 use port::frames as port;
 
 use crate::inputs::Input;
+use crate::original;
 use crate::race::race;
 use crate::{Timed, timed};
 
@@ -31,8 +32,14 @@ pub fn from_rgb(input: &Input) -> Vec<Timed> {
     let rgb: Vec<u8> = input.samples.iter().flat_map(|&s| [s, s, s]).collect();
     let mut out = vec![0; width * height];
     let times = race([
-        &mut || _ = black_box(Gray::from_rgb(black_box(&rgb), width, height)),
-        &mut || accepted(port::from_rgb(black_box(&rgb), width, height, &mut out)),
+        &mut || {
+            let rgb = black_box(&rgb);
+            accepted(original::from_rgb(rgb.as_ptr(), rgb.len(), width, height));
+        },
+        &mut || {
+            let rgb = black_box(&rgb);
+            accepted(port::from_rgb(rgb, width, height, &mut out));
+        },
     ]);
     vec![timed("from_rgb", 1.0, input, times)]
 }
@@ -41,14 +48,15 @@ pub fn shrink2(input: &Input) -> Vec<Timed> {
     let (width, height) = input.size;
     let (gray, frame) = (gray(input), frame(input));
     let mut out = vec![0; (width / 2) * (height / 2)];
-    let mut times = |original, mode| {
+    let mut times = |mode| {
+        let subsampled = mode == Shrink::Subsample;
         race([
-            &mut || _ = black_box(mtb_align::shrink2(black_box(&gray), original)),
-            &mut || accepted(port::shrink2(black_box(frame), mode, &mut out)),
+            &mut || accepted(original::shrink2(black_box(&gray), subsampled)),
+            &mut || accepted(port::shrink2(*black_box(&frame), mode, &mut out)),
         ])
     };
-    let average = times(mtb_align::Shrink::Average, Shrink::Average);
-    let subsample = times(mtb_align::Shrink::Subsample, Shrink::Subsample);
+    let average = times(Shrink::Average);
+    let subsample = times(Shrink::Subsample);
     vec![
         timed("shrink2 average", 2.0, input, average),
         timed("shrink2 subsample", 2.0, input, subsample),
@@ -62,20 +70,22 @@ pub const COMPUTE_BITMAPS: &str = "compute_bitmaps";
 pub fn cut_and_bitmaps(input: &Input) -> Vec<Timed> {
     let (width, height) = input.size;
     let (gray, frame) = (gray(input), frame(input));
-    let percentile = Percentile::new(PERCENTILE);
-    let mut cut = 0;
+    let [mut cut_there, mut cut] = [0; 2];
     let mut threshold = vec![0; words_needed(width, height)];
     let mut exclusion = threshold.clone();
     let [cut_of_original, cut_of_port, original, port] = race([
-        &mut || _ = black_box(mtb_align::threshold(black_box(&gray), percentile)),
-        &mut || accepted(port::threshold(black_box(frame), PERCENTILE, &mut cut)),
         &mut || {
             let gray = black_box(&gray);
-            black_box(mtb_align::compute_bitmaps(gray, percentile, TOLERANCE));
+            accepted(original::threshold(gray, PERCENTILE, &mut cut_there));
+        },
+        &mut || accepted(port::threshold(*black_box(&frame), PERCENTILE, &mut cut)),
+        &mut || {
+            let gray = black_box(&gray);
+            accepted(original::compute_bitmaps(gray, PERCENTILE, TOLERANCE));
         },
         &mut || {
             accepted(port::compute_bitmaps(
-                black_box(frame),
+                *black_box(&frame),
                 PERCENTILE,
                 TOLERANCE,
                 &mut threshold,
@@ -114,10 +124,13 @@ fn bitmaps(input: &Input) -> (mtb_align::Bitmap, Vec<u64>) {
 pub fn count_ones(input: &Input) -> Vec<Timed> {
     let (bitmap, words) = bitmaps(input);
     let lent = Bitmap::new(&words, input.size.0, input.size.1);
-    let mut total = 0;
+    let [mut total_there, mut total] = [0; 2];
     let times = race([
-        &mut || _ = black_box(black_box(&bitmap).count_ones()),
-        &mut || accepted(port::count_ones(black_box(lent), &mut total)),
+        &mut || {
+            let bitmap = black_box(&bitmap);
+            accepted(original::count_ones(bitmap, &mut total_there));
+        },
+        &mut || accepted(port::count_ones(*black_box(&lent), &mut total)),
     ]);
     vec![timed("count_ones", 1.0, input, times)]
 }
@@ -132,17 +145,19 @@ pub fn pixels(input: &Input) -> Vec<Timed> {
     let per_call = |times: [f64; 2]| times.map(|time| time / places.len() as f64);
 
     let (mut bitmap, mut words) = bitmaps(input);
-    let mut pixel = false;
+    let lent = Bitmap::new(&words, width, height);
+    let [mut pixel_there, mut pixel] = [false; 2];
     let get = race([
         &mut || {
             for &(x, y) in &places {
-                black_box(black_box(&bitmap).get(x, y));
+                let bitmap = black_box(&bitmap);
+                accepted(original::get(bitmap, x, y, &mut pixel_there));
+                black_box(pixel_there);
             }
         },
         &mut || {
             for &(x, y) in &places {
-                let lent = Bitmap::new(&words, width, height);
-                accepted(port::get(black_box(lent), x, y, &mut pixel));
+                accepted(port::get(*black_box(&lent), x, y, &mut pixel));
                 black_box(pixel);
             }
         },
@@ -150,7 +165,8 @@ pub fn pixels(input: &Input) -> Vec<Timed> {
     let set = race([
         &mut || {
             for &(x, y) in &places {
-                black_box(&mut bitmap).set(x, y, x > y);
+                let bitmap = black_box(&mut bitmap);
+                accepted(original::set(bitmap, x, y, x > y));
             }
         },
         &mut || {
@@ -168,5 +184,5 @@ pub fn pixels(input: &Input) -> Vec<Timed> {
 
 /// A refusal would be quick.
 pub fn accepted(status: u32) {
-    assert_eq!(status, 0, "the port refused");
+    assert_eq!(status, 0, "refused");
 }

@@ -1,10 +1,11 @@
 //! Times the original and the port in one run on the same inputs and prints a table
-//! for each call.
+//! for each call. Arguments name the calls that are timed; without any, all are.
 
 mod counts;
 mod frames;
 mod inputs;
 mod moves;
+mod original;
 mod race;
 mod search;
 
@@ -41,14 +42,15 @@ impl Timed {
     }
 }
 
-/// A part of what is timed, by name.
-type Part = (&'static str, fn(&Input) -> Vec<Timed>);
+/// Calls by the name that an argument gives. Each side meets its input through one
+/// pointer that the compiler cannot see through.
+type Call = (&'static str, fn(&Input) -> Vec<Timed>);
 
 /// Calls timed on every input.
-const CALLS: [Part; 8] = [
+const CALLS: [Call; 8] = [
     ("from_rgb", frames::from_rgb),
     ("shrink2", frames::shrink2),
-    ("compute_bitmaps", frames::cut_and_bitmaps),
+    (frames::COMPUTE_BITMAPS, frames::cut_and_bitmaps), // and threshold, in one race
     ("count_ones", frames::count_ones),
     ("shifted", moves::shifted),
     ("disagreement", counts::disagreement),
@@ -57,8 +59,8 @@ const CALLS: [Part; 8] = [
 ];
 
 /// Calls whose time has nothing to do with the input.
-const CALLS_ON_ONE: [Part; 2] = [
-    ("pixels", frames::pixels),
+const CALLS_ON_ONE: [Call; 2] = [
+    ("pixels", frames::pixels), // get and set
     ("common_crop", moves::common_crop),
 ];
 const ONE: Size = (640, 480);
@@ -67,11 +69,21 @@ const ONE: Size = (640, 480);
 const PASSES: usize = 4;
 
 fn main() {
+    let named: Vec<String> = std::env::args().skip(1).collect();
+    let known = || CALLS.iter().chain(&CALLS_ON_ONE).map(|(name, _)| *name);
+    if let Some(other) = named.iter().find(|name| known().all(|call| call != *name)) {
+        let known: Vec<&str> = known().collect();
+        eprintln!("no call {other}; there are {}", known.join(", "));
+        std::process::exit(2);
+    }
+    let is_timed = |call: &Call| named.is_empty() || named.iter().any(|name| name == call.0);
+
     println!(
         "Nanoseconds of processor time per call, the least of {} rounds in which both sides
 take turns.
-Both are built for release without overflow checks. The original allocates its answer
-in every call and frees it, the port writes to buffers made before.
+Both are built for release without overflow checks and called by C's convention, never
+inlined. The original allocates its answer in every call and frees it, the port writes
+to buffers made before.
 The ratio is original to port; `<` marks one below the goal.
 Packing alone is compute_bitmaps less threshold on the port's side, and the whole of
 compute_bitmaps on the original's. Percentile 50, tolerance 4.
@@ -80,10 +92,9 @@ rows, in light that changes by row; flat, 128 throughout. RGB has each sample th
         PASSES * race::ROUNDS
     );
 
-    let parts: Vec<String> = std::env::args().skip(1).collect();
-    let mut all = pass(&parts);
+    let mut all = pass(is_timed);
     for _ in 1..PASSES {
-        for (timed, again) in all.iter_mut().zip(pass(&parts)) {
+        for (timed, again) in all.iter_mut().zip(pass(is_timed)) {
             for (time, again) in timed.times.iter_mut().zip(again.times) {
                 *time = time.min(again);
             }
@@ -112,19 +123,20 @@ rows, in light that changes by row; flat, 128 throughout. RGB has each sample th
     }
 }
 
-/// Every call on its inputs, or only the parts that are named, always in the same order.
-fn pass(parts: &[String]) -> Vec<Timed> {
-    let wanted = |part: &&Part| parts.is_empty() || parts.iter().any(|name| name == part.0);
+/// The calls on their inputs, always in the same order.
+fn pass(is_timed: impl Fn(&Call) -> bool) -> Vec<Timed> {
     let mut all = Vec::new();
+    let mut time = |calls: &[Call], input: &Input| {
+        for call in calls.iter().filter(|call| is_timed(call)) {
+            all.extend(call.1(input));
+        }
+    };
     for size in SIZES {
         for kind in Kind::ALL {
-            let input = Input::new(size, kind);
-            all.extend(CALLS.iter().filter(wanted).flat_map(|part| part.1(&input)));
+            time(&CALLS, &Input::new(size, kind));
         }
     }
-    let input = Input::new(ONE, Kind::Noise);
-    let calls = CALLS_ON_ONE.iter().filter(wanted);
-    all.extend(calls.flat_map(|part| part.1(&input)));
+    time(&CALLS_ON_ONE, &Input::new(ONE, Kind::Noise));
     all
 }
 

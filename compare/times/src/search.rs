@@ -11,6 +11,7 @@ use port::search as port;
 
 use crate::frames::{accepted, gray};
 use crate::inputs::Input;
+use crate::original;
 use crate::race::race;
 use crate::{Timed, timed};
 
@@ -48,15 +49,23 @@ pub fn shift(input: &Input) -> Vec<Timed> {
         [0, 1].map(|frame: usize| Frame::new(frames[frame].as_slice(), width, height));
     let (mut bytes, mut words) = scratch(input.size);
     let (mut x, mut y, mut comparisons) = (0, 0, 0);
-    let usual = mtb_align::Options::default();
+    let [mut x_there, mut y_there] = [0; 2];
     let times = race([
         &mut || {
-            let shift = mtb_align::shift(black_box(&frames[0]), &frames[1], &usual);
-            _ = black_box(shift);
+            accepted(original::shift(
+                black_box(&frames[0]),
+                &frames[1],
+                OPTIONS.bits,
+                OPTIONS.tolerance,
+                OPTIONS.percentile,
+                OPTIONS.shrink == Shrink::Subsample,
+                &mut x_there,
+                &mut y_there,
+            ));
         },
         &mut || {
             accepted(port::shift(
-                black_box(reference),
+                *black_box(&reference),
                 target,
                 &OPTIONS,
                 (&mut bytes, &mut words),
@@ -71,7 +80,6 @@ pub fn shift(input: &Input) -> Vec<Timed> {
 pub fn align_stack(input: &Input) -> Vec<Timed> {
     let (width, height) = input.size;
     let (mut bytes, mut words) = scratch(input.size);
-    let usual = mtb_align::Options::default();
     BRACKETS
         .into_iter()
         .map(|(name, count)| {
@@ -87,11 +95,19 @@ pub fn align_stack(input: &Input) -> Vec<Timed> {
             let times = race([
                 &mut || {
                     let frames = black_box(&frames);
-                    _ = black_box(mtb_align::align_stack(frames, count / 2, &usual));
+                    accepted(original::align_stack(
+                        frames.as_ptr(),
+                        frames.len(),
+                        count / 2,
+                        OPTIONS.bits,
+                        OPTIONS.tolerance,
+                        OPTIONS.percentile,
+                        OPTIONS.shrink == Shrink::Subsample,
+                    ));
                 },
                 &mut || {
                     let scratch = (&mut bytes[..], &mut words[..]);
-                    let stack = black_box(stack);
+                    let stack = *black_box(&stack);
                     accepted(port::align_stack(stack, &OPTIONS, &mut shifts, scratch));
                 },
             ]);

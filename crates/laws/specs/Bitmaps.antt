@@ -98,22 +98,22 @@ module _ (v i : ℕ) (fits : v < 2 ^ 64) (l : i < 64) where
   one-fits = mod-lt (1 * 2 ^ i) (pow-pos 64)
 
   -- `v | (1 << i)`
+  set-at : bitOf (bitOr v (oneAt i)) i ≡ 1
+  set-at = bit-or v (oneAt i) i ∙ ap (max (bitOf v i)) (bit-one-at 64 i l) ∙ omega (arith, bit-lt v i)
+
+  set-off : (k : ℕ) → k < 64 → (k ≡ i → ⊥) → bitOf (bitOr v (oneAt i)) k ≡ bitOf v k
+  set-off k m ne = bit-or v (oneAt i) k ∙ ap (max (bitOf v k)) (bit-one-off 64 i k m ne) ∙ omega arith
+
   pub with-set : bitOr v (oneAt i) ≡ withOne v i 1
-  with-set =
-      with-one (bitOr v (oneAt i)) 1 (or-lt 64 v (oneAt i) fits one-fits)
-      (bit-or v (oneAt i) i ∙ ap (max (bitOf v i)) (bit-one-at 64 i l) ∙ omega (arith, bit-lt v i))
-      (λ k m ne. bit-or v (oneAt i) k ∙ ap (max (bitOf v k)) (bit-one-off 64 i k m ne) ∙ omega arith)
+  with-set = with-one (bitOr v (oneAt i)) 1 (or-lt 64 v (oneAt i) fits one-fits) set-at set-off
 
-  -- `v ^ (1 << i)`, where the bit is set
-  pub with-cleared : bitOf v i ≡ 1 → bitXor v (oneAt i) ≡ withOne v i 0
-  with-cleared e =
-      with-one (bitXor v (oneAt i)) 0 (xor-lt 64 v (oneAt i) fits one-fits)
-      (bit-xor v (oneAt i) i ∙ ap₂ differ e (bit-one-at 64 i l))
-      (λ k m ne. bit-xor v (oneAt i) k ∙ ap (differ (bitOf v k)) (bit-one-off 64 i k m ne) ∙ differ-none (bitOf v k))
-
-  -- v itself, where it is clear
-  pub with-kept : (bitOf v i ≡ 1 → ⊥) → v ≡ withOne v i 0
-  with-kept ne = with-one v 0 fits (omega (arith, ne, bit-lt v i)) (λ k m _. refl)
+  -- and `(v | (1 << i)) ^ (1 << i)`
+  pub with-cleared : bitXor (bitOr v (oneAt i)) (oneAt i) ≡ withOne v i 0
+  with-cleared =
+      let o = bitOr v (oneAt i) in
+      with-one (bitXor o (oneAt i)) 0 (xor-lt 64 o (oneAt i) (or-lt 64 v (oneAt i) fits one-fits) one-fits)
+      (bit-xor o (oneAt i) i ∙ ap₂ differ set-at (bit-one-at 64 i l))
+      (λ k m ne. bit-xor o (oneAt i) k ∙ ap (differ (bitOf o k)) (bit-one-off 64 i k m ne) ∙ differ-none (bitOf o k) ∙ set-off k m ne)
 
 -- ---- padding
 

@@ -1,4 +1,5 @@
 -- Laws that the proofs of several functions cite.
+pub mod Adders
 pub mod Costs
 pub mod Counting
 pub mod Four

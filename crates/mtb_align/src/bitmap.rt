@@ -5,12 +5,13 @@ use super::error::side_over;
 ghost use mathlib.Core.Path.{_≡_};
 ghost use mathlib.Core.Bool.{cond};
 ghost use mathlib.Core.List.{[]};
-ghost use Prim.Native.Nat.{ℕ, _≤_, _<_};
+ghost use Prim.Native.Nat.{ℕ, _+_, _*_, _%_, _≤_, _<_};
 ghost use lib.Dec.{eqb};
 ghost use lib.ListN.{length, getD};
 ghost use Rattle.definitions.specs.Sum.{bit, sum};
 ghost use Rattle.definitions.specs.Bitmap.{wordsPerRow, bitmapWords, bitOf, wordOf, bitAt, withBit, total, paddingSet, rowOf};
 ghost use Rattle.definitions.specs.Refusals.{answer, after, pixelChecks, totalChecks, rowChecks};
+ghost use Rattle.mtb_align.specs.Adders.{bitsApart};
 ghost use Rattle.mtb_align.specs.Answers.{outcome, pixelAnswer, totalAnswer};
 
 pub enum PixelAnswer {
@@ -38,7 +39,23 @@ pub(crate) fn ones_of(word: u64) -> u64
     u64::count_ones(word) as u64
 }
 
-// How many padding bits are set.
+// How many padding bits are set, one row after another, where the rows have some.
+fn padding_by_rows(words: &[u64], width: usize, height: usize) -> u64
+    requires { ⌜ (width ≤ 8192) × (height ≤ 8192) × (0 < width % 64) × (length (now words) ≡ bitmapWords width height) ⌝ }
+    ensures { λ r. ⌜ r ≡ paddingSet (now (words .entry)) width height ⌝ }
+{
+    let spare = width % 64;
+    let n = words_per_row(width);
+    let mut set: u64 = 0;
+    let mut y: usize = 0;
+    while y < height {
+        set += ones_of(words[y * n + width / 64] >> spare);
+        y += 1;
+    }
+    set
+}
+
+// How many padding bits are set. That there are none, as in any bitmap, shows once the rows' last words are laid over each other.
 pub(crate) fn padding(words: &[u64], width: usize, height: usize) -> u64
     requires { ⌜ (width ≤ 8192) × (height ≤ 8192) × (length (now words) ≡ bitmapWords width height) ⌝ }
     ensures { λ r. ⌜ r ≡ paddingSet (now (words .entry)) width height ⌝ }
@@ -48,13 +65,16 @@ pub(crate) fn padding(words: &[u64], width: usize, height: usize) -> u64
         return 0;
     }
     let n = words_per_row(width);
-    let mut set: u64 = 0;
+    let mut any: u64 = 0;
     let mut y: usize = 0;
     while y < height {
-        set += ones_of(words[y * n + width / 64] >> spare);
+        any = any | words[y * n + width / 64];
         y += 1;
     }
-    set
+    if any >> spare == 0 {
+        return 0;
+    }
+    padding_by_rows(words, width, height)
 }
 
 // Refused: 1, 2, 11.
@@ -83,13 +103,11 @@ fn with_bit(word: u64, i: usize, value: bool) -> u64
     ensures { λ r. ⌜ r ≡ wordOf 64 (λ (k : ℕ). cond (eqb k i) (bit value) (bitOf word k)) ⌝ }
 {
     let mask = 1u64 << i;
+    let set = word | mask;
     if value {
-        return word | mask;
+        return set;
     }
-    if (word >> i) & 1 == 1 {
-        return word ^ mask;
-    }
-    word
+    set ^ mask
 }
 
 // Refused: 1, 2, 11.
@@ -122,13 +140,79 @@ pub fn set(
     Outcome::Done
 }
 
-// How many bits are set in all words.
+// Words added up bit by bit: a bit of `ones` counts 1, one of `twos` 2, one of `fours` 4.
+struct Twos {
+    twos: u64,
+    ones: u64,
+}
+
+struct Fours {
+    fours: u64,
+    twos: u64,
+    ones: u64,
+}
+
+// The carry-save adder of three words.
+fn carry_save(a: u64, b: u64, c: u64) -> Twos
+    ensures { λ r. ⌜ ((i : ℕ) → 2 * bitOf (r .twos) i + bitOf (r .ones) i ≡ bitOf a i + bitOf b i + bitOf c i) ⌝ }
+{
+    let odd = a ^ b;
+    Twos {
+        twos: (a & b) | (odd & c),
+        ones: odd ^ c,
+    }
+}
+
+// Three words, `step` apart.
+fn add_three(words: &[u64], at: usize, step: usize) -> Twos
+    requires { ⌜ (at + 2 * step < length (now words)) × (length (now words) ≤ 1048576) ⌝ }
+    ensures { λ r. ⌜ ((i : ℕ) → 2 * bitOf (r .twos) i + bitOf (r .ones) i ≡ bitsApart 3 (now (words .entry)) at step i) ⌝ }
+{
+    carry_save(words[at], words[at + step], words[at + 2 * step])
+}
+
+// Seven words, `step` apart.
+fn add_seven(words: &[u64], at: usize, step: usize) -> Fours
+    requires { ⌜ (at + 6 * step < length (now words)) × (length (now words) ≤ 1048576) ⌝ }
+    ensures { λ r. ⌜ ((i : ℕ) → 4 * bitOf (r .fours) i + 2 * bitOf (r .twos) i + bitOf (r .ones) i ≡ bitsApart 7 (now (words .entry)) at step i) ⌝ }
+{
+    let a = add_three(words, at, step);
+    let b = add_three(words, at + 3 * step, step);
+    let ones = carry_save(a.ones, b.ones, words[at + 6 * step]);
+    let twos = carry_save(a.twos, b.twos, ones.twos);
+    Fours {
+        fours: twos.twos,
+        twos: twos.ones,
+        ones: ones.ones,
+    }
+}
+
+// How many bits are set in fifteen words, `step` apart. Once they are added up, four counts serve for all (Harley and Seal).
+fn ones_of_fifteen(words: &[u64], at: usize, step: usize) -> u64
+    requires { ⌜ (at + 14 * step < length (now words)) × (length (now words) ≤ 1048576) ⌝ }
+    ensures { λ r. ⌜ (r ≡ sum 15 (λ (j : ℕ). sum 64 (bitOf (getD (now (words .entry)) (j * step + at) 0)))) × (r ≤ 960) ⌝ }
+{
+    let a = add_seven(words, at, step);
+    let b = add_seven(words, at + 7 * step, step);
+    let ones = carry_save(a.ones, b.ones, words[at + 14 * step]);
+    let twos = carry_save(a.twos, b.twos, ones.twos);
+    let fours = carry_save(a.fours, b.fours, twos.twos);
+    8 * ones_of(fours.twos) + 4 * ones_of(fours.ones) + 2 * ones_of(twos.ones) + ones_of(ones.ones)
+}
+
+// How many bits are set in all words: in fifteen parts of equal length at once, which LLVM makes vectors of, then in the few left.
 fn ones_in(words: &[u64]) -> u64
     requires { ⌜ length (now words) ≤ 1048576 ⌝ }
     ensures { λ r. ⌜ r ≡ sum (length (now (words .entry))) (λ (k : ℕ). sum 64 (bitOf (getD (now (words .entry)) k 0))) ⌝ }
 {
+    let step = words.len() / 15;
     let mut set: u64 = 0;
-    let mut k: usize = 0;
+    let mut at: usize = 0;
+    while at < step {
+        set += ones_of_fifteen(words, at, step);
+        at += 1;
+    }
+    let mut k = 15 * step;
     while k < words.len() {
         set += ones_of(words[k]);
         k += 1;

@@ -106,7 +106,7 @@ impl Rect {
 }
 
 // How far a coordinate lies above 0, and 0 below it.
-fn above(coordinate: i32) -> usize
+pub(crate) fn above(coordinate: i32) -> usize
     ensures { λ r. ⌜ r ≡ ahead coordinate ⌝ }
 {
     if coordinate < 0 {
@@ -116,7 +116,7 @@ fn above(coordinate: i32) -> usize
 }
 
 // How far a coordinate lies below 0, and 0 above it.
-fn below(coordinate: i32) -> usize
+pub(crate) fn below(coordinate: i32) -> usize
     ensures { λ r. ⌜ r ≡ behind coordinate ⌝ }
 {
     if coordinate < 0 {

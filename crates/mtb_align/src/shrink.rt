@@ -3,8 +3,8 @@ use super::error::Error;
 use super::error::Outcome;
 use super::error::side_over;
 ghost use mathlib.Core.Path.{_≡_};
-ghost use Prim.Native.Nat.{ℕ, _+_, _*_, _/_, _≤_, _<_};
-ghost use lib.ListN.{length, take, drop};
+ghost use Prim.Native.Nat.{ℕ, _+_, _*_, _/_, _%_, _≤_, _<_};
+ghost use lib.ListN.{length, getD, take, drop};
 ghost use lib.Seq.{sets};
 ghost use Rattle.definitions.specs.Build.{build};
 ghost use Rattle.definitions.specs.Shrink.{mean, average, subsample, halvedSample, shrink2};
@@ -17,10 +17,27 @@ pub enum Shrink {
     Subsample,
 }
 
-fn mean_of(a: u8, b: u8, c: u8, d: u8) -> u8
-    ensures { λ r. ⌜ r ≡ mean a b c d ⌝ }
+// Two neighbours in one number, the left one below. LLVM makes one load of it before it sees the callers, and a row of such loads is
+// read by vectors; single samples at every second place are not.
+fn pair(samples: &[u8], at: usize) -> u16
+    requires { ⌜ at + 2 ≤ length (now samples) ⌝ }
+    ensures { λ r. ⌜ (r % 256 ≡ getD (now (samples .entry)) at 0) × (r / 256 ≡ getD (now (samples .entry)) (at + 1) 0) ⌝ }
 {
-    ((a as u16 + b as u16 + c as u16 + d as u16 + 2) / 4) as u8
+    samples[at] as u16 + 256 * samples[at + 1] as u16
+}
+
+// The mean of the block whose rows are the two pairs.
+fn mean_of(top: u16, bottom: u16) -> u8
+    ensures { λ r. ⌜ r ≡ mean (top % 256) (top / 256) (bottom % 256) (bottom / 256) ⌝ }
+{
+    ((top % 256 + top / 256 + bottom % 256 + bottom / 256 + 2) / 4) as u8
+}
+
+// The left one of a pair.
+fn left_of(pair: u16) -> u8
+    ensures { λ r. ⌜ r ≡ pair % 256 ⌝ }
+{
+    (pair % 256) as u8
 }
 
 // Row y of the halved frame, written at `at`.
@@ -34,12 +51,7 @@ fn average_row(samples: &[u8], width: usize, y: usize, out: &mut [u8], at: usize
     let mut x: usize = 0;
     while x < n {
         let left = 2 * x;
-        out[at + x] = mean_of(
-            samples[top + left],
-            samples[top + left + 1],
-            samples[bottom + left],
-            samples[bottom + left + 1],
-        );
+        out[at + x] = mean_of(pair(samples, top + left), pair(samples, bottom + left));
         x += 1;
     }
 }
@@ -52,7 +64,7 @@ fn subsample_row(samples: &[u8], width: usize, y: usize, out: &mut [u8], at: usi
     let top = 2 * y * width;
     let mut x: usize = 0;
     while x < n {
-        out[at + x] = samples[top + 2 * x];
+        out[at + x] = left_of(pair(samples, top + 2 * x));
         x += 1;
     }
 }
@@ -114,12 +126,7 @@ fn average_row_within(scratch: &mut [u8], from: usize, width: usize, y: usize, a
     let mut x: usize = 0;
     while x < n {
         let left = 2 * x;
-        let mean = mean_of(
-            scratch[top + left],
-            scratch[top + left + 1],
-            scratch[bottom + left],
-            scratch[bottom + left + 1],
-        );
+        let mean = mean_of(pair(scratch, top + left), pair(scratch, bottom + left));
         scratch[at + x] = mean;
         x += 1;
     }
@@ -133,7 +140,7 @@ fn subsample_row_within(scratch: &mut [u8], from: usize, width: usize, y: usize,
     let top = from + 2 * y * width;
     let mut x: usize = 0;
     while x < n {
-        let sample = scratch[top + 2 * x];
+        let sample = left_of(pair(scratch, top + 2 * x));
         scratch[at + x] = sample;
         x += 1;
     }

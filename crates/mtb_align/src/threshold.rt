@@ -63,7 +63,7 @@ fn lane_total(lanes: &[u32; 1024], v: usize) -> u64
     requires { ⌜ (v < 256) × (laneTotal (now lanes) v ≤ 67108864) ⌝ }
     ensures { λ r. ⌜ r ≡ laneTotal (now (lanes .entry)) v ⌝ }
 {
-    lanes[v] as u64 + lanes[256 + v] as u64 + lanes[512 + v] as u64 + lanes[768 + v] as u64
+    (lanes[v] + lanes[256 + v] + lanes[512 + v] + lanes[768 + v]) as u64
 }
 
 // The four lanes as one.

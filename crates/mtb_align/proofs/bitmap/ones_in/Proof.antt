@@ -1,12 +1,14 @@
--- `mtb_align::bitmap::ones_in` meets its contract. The loop has counted the set bits of the first k words. Assumes nothing.
+-- `mtb_align::bitmap::ones_in` meets its contract. The first loop has counted the first `at` words of each of the fifteen parts, the
+-- second all of the first k words. Assumes nothing.
 use mathlib.Core.Path.{_≡_, sym, ap, _∙_}
 use mathlib.Core.List.{List}
-use Prim.Native.Nat.{ℕ, _-_, _*_, _≤_}
+use Prim.Native.Nat.{ℕ, _+_, _-_, _*_, _/_, _≤_}
 use native.Mathlib.Omega.{arith}
 use lib.ListN.{length, getD}
 use Rattle.definitions.specs.Bitmap.{bitOf}
 use Rattle.definitions.specs.Sum.{sum}
 use Rattle.laws.specs.Sums.{sum-none, sum-step}
+use Rattle.mtb_align.proofs.Adders.{parts}
 use Rattle.mtb_align.proofs.bitmap.ones_in.Statement.{statement}
 use Rattle.mtb_align.proofs.bitmap.ones_in.Tie as tie
 
@@ -14,43 +16,81 @@ use Rattle.mtb_align.proofs.bitmap.ones_in.Tie as tie
 abbrev onesAt : List ℕ → ℕ → ℕ
 onesAt words k = sum 64 (bitOf (getD words k 0))
 
+-- of word `at` of each part
+abbrev fifteenAt : List ℕ → ℕ → ℕ → ℕ
+fifteenAt words step at = sum 15 (λ (j : ℕ). onesAt words (j * step + at))
+
 abbrev Inv-loop : tie.InvT-loop
-Inv-loop words set₀ k₀ set k = (k ≤ length words) × (set ≡ sum k (onesAt words)) × (set ≤ k * 64)
+Inv-loop words step set₀ at₀ set at = (at ≤ step) × (set ≡ sum at (fifteenAt words step)) × (set ≤ at * 960)
 
 abbrev μ-loop : tie.MeasureT-loop
-μ-loop words set₀ k₀ set k = length words - k
+μ-loop words step set₀ at₀ set at = step - at
 
-loop-holds : tie.Need-loop-holds Inv-loop μ-loop
+abbrev Inv-loop2 : tie.InvT-loop2
+Inv-loop2 words step set₀ at k₀ set k = (k ≤ length words) × (set ≡ sum k (onesAt words)) × (set ≤ k * 64)
+
+abbrev μ-loop2 : tie.MeasureT-loop2
+μ-loop2 words step set₀ at k₀ set k = length words - k
+
+loop-holds : tie.Need-loop-holds Inv-loop μ-loop Inv-loop2 μ-loop2
 loop-holds c = (omega arith, sym (sum-none _), omega arith)
 
-mul-ones-of : tie.Need-mul-ones-of Inv-loop μ-loop
-mul-ones-of c = omega arith
+ones-of-fifteen-requires : tie.Need-ones-of-fifteen-requires Inv-loop μ-loop Inv-loop2 μ-loop2
+ones-of-fifteen-requires c κs = (omega arith, omega arith)
 
-shared-slice-read-ones-of : tie.Need-shared-slice-read-ones-of Inv-loop μ-loop
-shared-slice-read-ones-of c = omega arith
-
-ones-of-requires : tie.Need-ones-of-requires Inv-loop μ-loop
-ones-of-requires c κs = tt
-
-add-set : tie.Need-add-set Inv-loop μ-loop
+add-set : tie.Need-add-set Inv-loop μ-loop Inv-loop2 μ-loop2
 add-set c = omega arith
 
-add-k : tie.Need-add-k Inv-loop μ-loop
-add-k c = omega arith
+add-at : tie.Need-add-at Inv-loop μ-loop Inv-loop2 μ-loop2
+add-at c = omega arith
 
-loop-less : tie.Need-loop-less Inv-loop μ-loop
+loop-less : tie.Need-loop-less Inv-loop μ-loop Inv-loop2 μ-loop2
 loop-less c = omega arith
 
-loop-again : tie.Need-loop-again Inv-loop μ-loop
+loop-again : tie.Need-loop-again Inv-loop μ-loop Inv-loop2 μ-loop2
 loop-again c =
-    let l = c .before .before .before in
-    (omega arith, sum-step (l .loop .k) (onesAt (l .before .before .args .words .now)) (l .loop .inv .1) (c .ones-of .ensures .0), omega arith)
+    let l = c .before .before in
+    let words = l .before .before .args .words .now in
+    (omega arith, sum-step (l .loop .at) (fifteenAt words (length words / 15)) (l .loop .inv .1) (c .ones-of-fifteen .ensures .0), omega arith)
 
-returns : tie.Need-returns Inv-loop μ-loop
-returns c =
+mul-k : tie.Need-mul-k Inv-loop μ-loop Inv-loop2 μ-loop2
+mul-k c = omega arith
+
+loop2-holds : tie.Need-loop2-holds Inv-loop μ-loop Inv-loop2 μ-loop2
+loop2-holds c =
     let words = c .before .before .before .args .words .now in
-    let e : c .before .loop .k ≡ length words = omega arith in
-    c .before .loop .inv .1 ∙ ap (λ (k : ℕ). sum k (onesAt words)) e
+    let step = length words / 15 in
+    let e : c .before .loop .at ≡ step = omega arith in
+    (omega arith, c .before .loop .inv .1 ∙ ap (λ (k : ℕ). sum k (fifteenAt words step)) e ∙ parts step (onesAt words), omega arith)
+
+mul-ones-of : tie.Need-mul-ones-of Inv-loop μ-loop Inv-loop2 μ-loop2
+mul-ones-of c = omega arith
+
+shared-slice-read-ones-of : tie.Need-shared-slice-read-ones-of Inv-loop μ-loop Inv-loop2 μ-loop2
+shared-slice-read-ones-of c = omega arith
+
+ones-of-requires : tie.Need-ones-of-requires Inv-loop μ-loop Inv-loop2 μ-loop2
+ones-of-requires c κs = tt
+
+add-set-2 : tie.Need-add-set-2 Inv-loop μ-loop Inv-loop2 μ-loop2
+add-set-2 c = omega arith
+
+add-k : tie.Need-add-k Inv-loop μ-loop Inv-loop2 μ-loop2
+add-k c = omega arith
+
+loop2-less : tie.Need-loop2-less Inv-loop μ-loop Inv-loop2 μ-loop2
+loop2-less c = omega arith
+
+loop2-again : tie.Need-loop2-again Inv-loop μ-loop Inv-loop2 μ-loop2
+loop2-again c =
+    let l = c .before .before .before in
+    (omega arith, sum-step (l .loop2 .k) (onesAt (l .before .before .before .before .args .words .now)) (l .loop2 .inv .1) (c .ones-of .ensures .0), omega arith)
+
+returns : tie.Need-returns Inv-loop μ-loop Inv-loop2 μ-loop2
+returns c =
+    let words = c .before .before .before .before .before .args .words .now in
+    let e : c .before .loop2 .k ≡ length words = omega arith in
+    c .before .loop2 .inv .1 ∙ ap (λ (k : ℕ). sum k (onesAt words)) e
 
 pub ones-in-spec : {M : Type 1} → statement M
 ones-in-spec =
@@ -58,12 +98,21 @@ ones-in-spec =
     (tie.spec
     Inv-loop
     μ-loop
+    Inv-loop2
+    μ-loop2
     loop-holds
+    ones-of-fifteen-requires
+    add-set
+    add-at
+    loop-less
+    loop-again
+    mul-k
+    loop2-holds
     mul-ones-of
     shared-slice-read-ones-of
     ones-of-requires
-    add-set
+    add-set-2
     add-k
-    loop-less
-    loop-again
+    loop2-less
+    loop2-again
     returns)

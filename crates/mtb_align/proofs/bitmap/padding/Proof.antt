@@ -1,4 +1,5 @@
--- `mtb_align::bitmap::padding` meets its contract. The loop has counted the padding bits of the first y rows. Assumes nothing.
+-- `mtb_align::bitmap::padding` meets its contract. The loop has laid the last words of the first y rows over each other. Assumes
+-- nothing.
 use mathlib.Core.Path.{_≡_, sym, ap, _∙_}
 use Prim.Native.Nat.{ℕ, _+_, _-_, _*_, _/_, _%_, _^_, _≤_, _<_}
 use native.Mathlib.Omega.{arith}
@@ -6,16 +7,17 @@ use lib.ListN.{getD}
 use Rattle.definitions.specs.Bitmap.{bitOf, wordAt, paddingSet}
 use Rattle.definitions.specs.Sum.{sum}
 use Rattle.laws.specs.Bitmaps.{last-inside, paddingIn, padding-none, padding-row}
-use Rattle.laws.specs.Sums.{sum-none, sum-step}
+use Rattle.laws.specs.Sums.{sum-none, sum-more}
+use Rattle.mtb_align.proofs.Adders.{none-set, over-none}
 use Rattle.mtb_align.proofs.Pixels.{inside}
 use Rattle.mtb_align.proofs.bitmap.padding.Statement.{statement}
 use Rattle.mtb_align.proofs.bitmap.padding.Tie as tie
 
 abbrev Inv-loop : tie.InvT-loop
-Inv-loop words width height spare n set₀ y₀ set y = (y ≤ height) × (set ≡ sum y (paddingIn words width)) × (set ≤ y * 64)
+Inv-loop words width height spare n any₀ y₀ any y = (y ≤ height) × (any / 2 ^ spare ≡ 0 → sum y (paddingIn words width) ≡ 0)
 
 abbrev μ-loop : tie.MeasureT-loop
-μ-loop words width height spare n set₀ y₀ set y = height - y
+μ-loop words width height spare n any₀ y₀ any y = height - y
 
 returns : tie.Need-returns Inv-loop μ-loop
 returns c =
@@ -26,7 +28,7 @@ words-per-row-requires : tie.Need-words-per-row-requires Inv-loop μ-loop
 words-per-row-requires c κs = c .before .before .pre .0
 
 loop-holds : tie.Need-loop-holds Inv-loop μ-loop
-loop-holds c = (omega arith, sym (sum-none _), omega arith)
+loop-holds c = (omega arith, λ _. sum-none _)
 
 -- the word that is read
 read-inside : (c : tie.In-loop Inv-loop μ-loop) →
@@ -38,28 +40,19 @@ read-inside c =
     let s = r .before .before .before in
     inside (s .args .width) (s .args .height) (r .words-per-row .result) (r .words-per-row .ensures) (s .pre .0, s .pre .1) (s .args .width / 64) (c .before .loop .y) (last-inside (s .args .width) (r .before .if1 .left)) (c .loop-test .taken)
 
-mul-ones-of : tie.Need-mul-ones-of Inv-loop μ-loop
-mul-ones-of c = omega (arith, read-inside c)
+mul-any : tie.Need-mul-any Inv-loop μ-loop
+mul-any c = omega (arith, read-inside c)
 
-add-ones-of : tie.Need-add-ones-of Inv-loop μ-loop
-add-ones-of c = omega (arith, read-inside c)
+add-any : tie.Need-add-any Inv-loop μ-loop
+add-any c = omega (arith, read-inside c)
 
-mul-ones-of-2 : tie.Need-mul-ones-of-2 Inv-loop μ-loop
-mul-ones-of-2 c = omega (arith, read-inside c)
+mul-any-2 : tie.Need-mul-any-2 Inv-loop μ-loop
+mul-any-2 c = omega (arith, read-inside c)
 
-shared-slice-read-ones-of : tie.Need-shared-slice-read-ones-of Inv-loop μ-loop
-shared-slice-read-ones-of c =
+shared-slice-read-any : tie.Need-shared-slice-read-any Inv-loop μ-loop
+shared-slice-read-any c =
     let r = c .before .before .before in
     omega (arith, read-inside (c .before), ap (λ (n : ℕ). r .before .before .before .args .height * n) (r .words-per-row .ensures))
-
-shr-ones-of : tie.Need-shr-ones-of Inv-loop μ-loop
-shr-ones-of c = omega arith
-
-ones-of-requires : tie.Need-ones-of-requires Inv-loop μ-loop
-ones-of-requires c κs = tt
-
-add-set : tie.Need-add-set Inv-loop μ-loop
-add-set c = omega arith
 
 add-y : tie.Need-add-y Inv-loop μ-loop
 add-y c = omega arith
@@ -69,25 +62,40 @@ loop-less c = omega arith
 
 loop-again : tie.Need-loop-again Inv-loop μ-loop
 loop-again c =
-    let l = c .before .before .before in
+    let l = c .before .before in
     let r = l .before in
     let x = r .before .before .before .args in
     let words = x .words .now in
     let w = x .width in
     let y = l .loop .y in
     let f : getD words (wordAt w w y) 0 < 2 ^ 64 = omega (arith, r .before .before .shared-slice-known .given (wordAt w w y)) in
-    let e : c .ones-of .result ≡ paddingIn words w y =
-    c .ones-of .ensures .0
-    ∙ ap (λ (n : ℕ). sum 64 (bitOf (getD words (y * n + w / 64) 0 / 2 ^ (w % 64)))) (r .words-per-row .ensures)
-    ∙ padding-row words w y f (r .before .if1 .left) in
-    (omega arith, sum-step y (paddingIn words w) (l .loop .inv .1) e, omega arith)
+    let here = ap (λ (n : ℕ). getD words (y * n + w / 64) 0 / 2 ^ (w % 64)) (r .words-per-row .ensures) in (
+      omega arith,
+      λ e.
+          let o = over-none (l .loop .any) _ (w % 64) e in
+          let z = sym (padding-row words w y f (r .before .if1 .left)) ∙ none-set _ (sym here ∙ o .1) in
+          omega (arith, sum-more y (paddingIn words w), l .loop .inv .1 (o .0), z),
+    )
+
+shr-if2 : tie.Need-shr-if2 Inv-loop μ-loop
+shr-if2 c = omega arith
 
 returns-2 : tie.Need-returns-2 Inv-loop μ-loop
 unfolding paddingSet
 returns-2 c =
-    let x = c .before .before .before .before .before .args in
-    let e : c .before .loop .y ≡ x .height = omega arith in
-    c .before .loop .inv .1 ∙ ap (λ (k : ℕ). sum k (paddingIn (x .words .now) (x .width))) e
+    let l = c .before .before in
+    let x = l .before .before .before .before .args in
+    let e : l .loop .y ≡ x .height = omega arith in
+    sym (sym (ap (λ (k : ℕ). sum k (paddingIn (x .words .now) (x .width))) e) ∙ l .loop .inv .1 (c .if2 .taken))
+
+padding-by-rows-requires : tie.Need-padding-by-rows-requires Inv-loop μ-loop
+padding-by-rows-requires c κs =
+    let d = c .before .before .before .before in
+    let p = d .before .before .pre in
+    (p .0, p .1, omega (arith, d .if1 .left), p .2)
+
+returns-3 : tie.Need-returns-3 Inv-loop μ-loop
+returns-3 c = c .padding-by-rows .ensures
 
 pub padding-spec : {M : Type 1} → statement M
 padding-spec =
@@ -98,14 +106,14 @@ padding-spec =
     returns
     words-per-row-requires
     loop-holds
-    mul-ones-of
-    add-ones-of
-    mul-ones-of-2
-    shared-slice-read-ones-of
-    shr-ones-of
-    ones-of-requires
-    add-set
+    mul-any
+    add-any
+    mul-any-2
+    shared-slice-read-any
     add-y
     loop-less
     loop-again
-    returns-2)
+    shr-if2
+    returns-2
+    padding-by-rows-requires
+    returns-3)

@@ -4,7 +4,7 @@ use mathlib.Core.Bool.{Bool}
 use native.Mathlib.Omega.{arith}
 use borrow.Author.Needs.{needs}
 use Rattle.definitions.specs.Sum.{bit}
-use Rattle.laws.specs.Bitmaps.{bit-test, withOne, with-set, with-cleared, with-kept}
+use Rattle.laws.specs.Bitmaps.{withOne, with-set, with-cleared}
 use Rattle.mtb_align.proofs.bitmap.with_bit.Statement.{statement}
 use Rattle.mtb_align.proofs.bitmap.with_bit.Tie as tie
 
@@ -16,20 +16,10 @@ returns c =
     let x = c .before .args in
     with-set (x .word) (x .i) (omega arith) (omega arith) ∙ ap (λ (b : Bool). withOne (x .word) (x .i) (bit b)) (sym (c .if1 .taken))
 
-shr-if2 : tie.Need-shr-if2
-shr-if2 c = search needs
-
 returns-2 : tie.Need-returns-2
 returns-2 c =
-    let x = c .before .before .args in
-    with-cleared (x .word) (x .i) (omega arith) (omega arith) (sym (bit-test (x .word) (x .i)) ∙ c .if2 .taken)
-    ∙ ap (λ (b : Bool). withOne (x .word) (x .i) (bit b)) (sym (c .before .if1 .left))
-
-returns-3 : tie.Need-returns-3
-returns-3 c =
-    let x = c .before .before .args in
-    with-kept (x .word) (x .i) (omega arith) (omega arith) (λ e. c .if2 .left (bit-test (x .word) (x .i) ∙ e))
-    ∙ ap (λ (b : Bool). withOne (x .word) (x .i) (bit b)) (sym (c .before .if1 .left))
+    let x = c .before .args in
+    with-cleared (x .word) (x .i) (omega arith) (omega arith) ∙ ap (λ (b : Bool). withOne (x .word) (x .i) (bit b)) (sym (c .if1 .left))
 
 pub with-bit-spec : {M : Type 1} → statement M
-with-bit-spec = tie.close (tie.spec shl-mask returns shr-if2 returns-2 returns-3)
+with-bit-spec = tie.close (tie.spec shl-mask returns returns-2)

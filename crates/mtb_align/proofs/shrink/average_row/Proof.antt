@@ -1,7 +1,7 @@
 -- `mtb_align::shrink::average_row` meets its contract. The loop has stored the first x samples of the row. Assumes nothing.
 use mathlib.Core.Path.{_≡_, _∙_}
 use mathlib.Core.List.{List}
-use Prim.Native.Nat.{ℕ, _+_, _-_, _*_, _/_, _≤_}
+use Prim.Native.Nat.{ℕ, _+_, _-_, _*_, _/_, _%_, _≤_}
 use native.Mathlib.Omega.{arith}
 use lib.ListN.{getD}
 use Rattle.definitions.specs.Shrink.{mean, average, halvedSample}
@@ -9,12 +9,12 @@ use Rattle.mtb_align.proofs.Halves.{Samples, no-samples, one-sample}
 use Rattle.mtb_align.proofs.shrink.average_row.Statement.{statement}
 use Rattle.mtb_align.proofs.shrink.average_row.Tie as tie
 
--- the mean that the code takes
-mean-is : (s : List ℕ) (w x y : ℕ)
-    → mean (getD s (2 * y * w + 2 * x) 0) (getD s (2 * y * w + 2 * x + 1) 0) (getD s (2 * y * w + w + 2 * x) 0) (getD s (2 * y * w + w + 2 * x + 1) 0)
-    ≡ halvedSample average s w x y
+-- the mean of the block whose rows are the pairs p and q
+mean-is : (s : List ℕ) (w x y p q : ℕ) → (p % 256 ≡ getD s (2 * y * w + 2 * x) 0) × (p / 256 ≡ getD s (2 * y * w + 2 * x + 1) 0)
+    → (q % 256 ≡ getD s (2 * y * w + w + 2 * x) 0) × (q / 256 ≡ getD s (2 * y * w + w + 2 * x + 1) 0)
+    → mean (p % 256) (p / 256) (q % 256) (q / 256) ≡ halvedSample average s w x y
 unfolding halvedSample
-mean-is s w x y =
+mean-is s w x y p q (a, b) (c, d) =
     let right : 2 * y * w + 2 * x + 1 ≡ 2 * y * w + (2 * x + 1) = omega arith in
     let under : 2 * y * w + w + 2 * x ≡ (2 * y + 1) * w + 2 * x = omega arith in
     let last : 2 * y * w + w + 2 * x + 1 ≡ (2 * y + 1) * w + (2 * x + 1) = omega arith in
@@ -41,35 +41,17 @@ loop-holds c = (omega arith, no-samples _ _ _ _ _ _)
 mul-left : tie.Need-mul-left Inv-loop μ-loop
 mul-left c = omega arith
 
-add-mean-of : tie.Need-add-mean-of Inv-loop μ-loop
-add-mean-of c = omega arith
+add-pair : tie.Need-add-pair Inv-loop μ-loop
+add-pair c = omega arith
 
-shared-slice-read-mean-of : tie.Need-shared-slice-read-mean-of Inv-loop μ-loop
-shared-slice-read-mean-of c = omega arith
+pair-requires : tie.Need-pair-requires Inv-loop μ-loop
+pair-requires c κs = omega arith
 
-add-mean-of-2 : tie.Need-add-mean-of-2 Inv-loop μ-loop
-add-mean-of-2 c = omega arith
+add-pair-2 : tie.Need-add-pair-2 Inv-loop μ-loop
+add-pair-2 c = omega arith
 
-add-mean-of-3 : tie.Need-add-mean-of-3 Inv-loop μ-loop
-add-mean-of-3 c = omega arith
-
-shared-slice-read-mean-of-2 : tie.Need-shared-slice-read-mean-of-2 Inv-loop μ-loop
-shared-slice-read-mean-of-2 c = omega arith
-
-add-mean-of-4 : tie.Need-add-mean-of-4 Inv-loop μ-loop
-add-mean-of-4 c = omega arith
-
-shared-slice-read-mean-of-3 : tie.Need-shared-slice-read-mean-of-3 Inv-loop μ-loop
-shared-slice-read-mean-of-3 c = omega arith
-
-add-mean-of-5 : tie.Need-add-mean-of-5 Inv-loop μ-loop
-add-mean-of-5 c = omega arith
-
-add-mean-of-6 : tie.Need-add-mean-of-6 Inv-loop μ-loop
-add-mean-of-6 c = omega arith
-
-shared-slice-read-mean-of-4 : tie.Need-shared-slice-read-mean-of-4 Inv-loop μ-loop
-shared-slice-read-mean-of-4 c = omega arith
+pair-requires-2 : tie.Need-pair-requires-2 Inv-loop μ-loop
+pair-requires-2 c κs = omega arith
 
 mean-of-requires : tie.Need-mean-of-requires Inv-loop μ-loop
 mean-of-requires c κs = tt
@@ -87,7 +69,9 @@ loop-less : tie.Need-loop-less Inv-loop μ-loop
 loop-less c = omega arith
 
 loop-again : tie.Need-loop-again Inv-loop μ-loop
-loop-again c = (omega arith, one-sample (c .before .before .before .before .before .before .loop .inv .1) (c .mean-of .ensures ∙ mean-is _ _ _ _))
+loop-again c =
+    let q = c .before .before .before .before .loop .inv .1 in
+    (omega arith, one-sample q (c .mean-of .ensures ∙ mean-is _ _ _ _ _ _ (c .before .before .pair .ensures) (c .before .pair2 .ensures)))
 
 same-length : tie.Need-same-length Inv-loop μ-loop
 same-length c = c .before .loop .inv .1 .long
@@ -108,16 +92,10 @@ average-row-spec =
     add-bottom
     loop-holds
     mul-left
-    add-mean-of
-    shared-slice-read-mean-of
-    add-mean-of-2
-    add-mean-of-3
-    shared-slice-read-mean-of-2
-    add-mean-of-4
-    shared-slice-read-mean-of-3
-    add-mean-of-5
-    add-mean-of-6
-    shared-slice-read-mean-of-4
+    add-pair
+    pair-requires
+    add-pair-2
+    pair-requires-2
     mean-of-requires
     add-out
     slice-write-out

@@ -1,7 +1,7 @@
 -- `mtb_align::shrink::average_row_within` meets its contract. The loop has stored the first x samples of the row. Assumes nothing.
 use mathlib.Core.Path.{_≡_, _∙_}
 use mathlib.Core.List.{List}
-use Prim.Native.Nat.{ℕ, _+_, _-_, _*_, _/_, _≤_}
+use Prim.Native.Nat.{ℕ, _+_, _-_, _*_, _/_, _%_, _≤_}
 use native.Mathlib.Omega.{arith}
 use lib.ListN.{getD, drop}
 use lib.Seq.{getD-drop}
@@ -11,12 +11,13 @@ use Rattle.mtb_align.proofs.Within.{sample-within}
 use Rattle.mtb_align.proofs.shrink.average_row_within.Statement.{statement}
 use Rattle.mtb_align.proofs.shrink.average_row_within.Tie as tie
 
--- the mean that the code takes
-mean-is : (l : List ℕ) (from w x y : ℕ) → let top = from + 2 * y * w in
-    mean (getD l (top + 2 * x) 0) (getD l (top + 2 * x + 1) 0) (getD l (top + w + 2 * x) 0) (getD l (top + w + 2 * x + 1) 0)
-    ≡ halvedSample average (drop from l) w x y
+-- the mean of the block whose rows are the pairs p and q
+mean-is : (l : List ℕ) (from w x y p q : ℕ) → let top = from + 2 * y * w in
+    (p % 256 ≡ getD l (top + 2 * x) 0) × (p / 256 ≡ getD l (top + 2 * x + 1) 0)
+    → (q % 256 ≡ getD l (top + w + 2 * x) 0) × (q / 256 ≡ getD l (top + w + 2 * x + 1) 0)
+    → mean (p % 256) (p / 256) (q % 256) (q / 256) ≡ halvedSample average (drop from l) w x y
 unfolding halvedSample
-mean-is l from w x y =
+mean-is l from w x y p q (a, b) (c, d) =
     let top = from + 2 * y * w in
     let here : top + 2 * x ≡ from + (2 * y * w + 2 * x) = omega arith in
     let right : top + 2 * x + 1 ≡ from + (2 * y * w + (2 * x + 1)) = omega arith in
@@ -48,35 +49,17 @@ loop-holds c = (omega arith, no-samples _ _ _ _ _ _)
 mul-left : tie.Need-mul-left Inv-loop μ-loop
 mul-left c = omega arith
 
-add-mean-of : tie.Need-add-mean-of Inv-loop μ-loop
-add-mean-of c = omega arith
+add-pair : tie.Need-add-pair Inv-loop μ-loop
+add-pair c = omega arith
 
-slice-read-mean-of : tie.Need-slice-read-mean-of Inv-loop μ-loop
-slice-read-mean-of c = omega arith
+pair-requires : tie.Need-pair-requires Inv-loop μ-loop
+pair-requires c κs = omega arith
 
-add-mean-of-2 : tie.Need-add-mean-of-2 Inv-loop μ-loop
-add-mean-of-2 c = omega arith
+add-pair-2 : tie.Need-add-pair-2 Inv-loop μ-loop
+add-pair-2 c = omega arith
 
-add-mean-of-3 : tie.Need-add-mean-of-3 Inv-loop μ-loop
-add-mean-of-3 c = omega arith
-
-slice-read-mean-of-2 : tie.Need-slice-read-mean-of-2 Inv-loop μ-loop
-slice-read-mean-of-2 c = omega arith
-
-add-mean-of-4 : tie.Need-add-mean-of-4 Inv-loop μ-loop
-add-mean-of-4 c = omega arith
-
-slice-read-mean-of-3 : tie.Need-slice-read-mean-of-3 Inv-loop μ-loop
-slice-read-mean-of-3 c = omega arith
-
-add-mean-of-5 : tie.Need-add-mean-of-5 Inv-loop μ-loop
-add-mean-of-5 c = omega arith
-
-add-mean-of-6 : tie.Need-add-mean-of-6 Inv-loop μ-loop
-add-mean-of-6 c = omega arith
-
-slice-read-mean-of-4 : tie.Need-slice-read-mean-of-4 Inv-loop μ-loop
-slice-read-mean-of-4 c = omega arith
+pair-requires-2 : tie.Need-pair-requires-2 Inv-loop μ-loop
+pair-requires-2 c κs = omega arith
 
 mean-of-requires : tie.Need-mean-of-requires Inv-loop μ-loop
 mean-of-requires c κs = tt
@@ -98,7 +81,8 @@ loop-again c =
     let a = c .before .before .before .before .before .before .before .before .args in
     let l = c .before .before .before .before .before .before .loop in
     let q = l .inv .1 in
-    (omega arith, one-sample q (c .mean-of .ensures ∙ mean-is (l .scratch) (a .from) (a .width) (l .x) (a .y) ∙ sample-within (a .from) q (omega arith) (omega arith)))
+    let e = mean-is (l .scratch) (a .from) (a .width) (l .x) (a .y) _ _ (c .before .before .before .pair .ensures) (c .before .pair2 .ensures) in
+    (omega arith, one-sample q (c .mean-of .ensures ∙ e ∙ sample-within (a .from) q (omega arith) (omega arith)))
 
 same-length : tie.Need-same-length Inv-loop μ-loop
 same-length c = c .before .loop .inv .1 .long
@@ -120,16 +104,10 @@ average-row-within-spec =
     add-bottom
     loop-holds
     mul-left
-    add-mean-of
-    slice-read-mean-of
-    add-mean-of-2
-    add-mean-of-3
-    slice-read-mean-of-2
-    add-mean-of-4
-    slice-read-mean-of-3
-    add-mean-of-5
-    add-mean-of-6
-    slice-read-mean-of-4
+    add-pair
+    pair-requires
+    add-pair-2
+    pair-requires-2
     mean-of-requires
     add-scratch
     slice-write-scratch

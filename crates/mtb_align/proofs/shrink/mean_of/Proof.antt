@@ -1,6 +1,6 @@
 -- `mtb_align::shrink::mean_of` meets its contract. Assumes nothing.
 use borrow.Author.Needs.{needs}
-use native.Mathlib.Omega.{arith}
+use mathlib.Core.Path.{refl}
 use Rattle.definitions.specs.Shrink.{mean}
 use Rattle.mtb_align.proofs.shrink.mean_of.Statement.{statement}
 use Rattle.mtb_align.proofs.shrink.mean_of.Tie as tie
@@ -22,7 +22,7 @@ cast-result c = search needs
 
 returns : tie.Need-returns
 unfolding mean
-returns c = omega arith
+returns c = refl
 
 pub mean-of-spec : {M : Type 1} → statement M
 mean-of-spec =

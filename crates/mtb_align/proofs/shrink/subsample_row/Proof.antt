@@ -1,5 +1,5 @@
 -- `mtb_align::shrink::subsample_row` meets its contract. The loop has stored the first x samples of the row. Assumes nothing.
-use mathlib.Core.Path.{_≡_, refl}
+use mathlib.Core.Path.{_≡_, _∙_}
 use Prim.Native.Nat.{_-_, _/_, _≤_}
 use native.Mathlib.Omega.{arith}
 use Rattle.definitions.specs.Shrink.{subsample, halvedSample}
@@ -22,17 +22,20 @@ mul-top-2 c = omega arith
 loop-holds : tie.Need-loop-holds Inv-loop μ-loop
 loop-holds c = (omega arith, no-samples _ _ _ _ _ _)
 
-mul-out : tie.Need-mul-out Inv-loop μ-loop
-mul-out c = omega arith
+mul-pair : tie.Need-mul-pair Inv-loop μ-loop
+mul-pair c = omega arith
+
+add-pair : tie.Need-add-pair Inv-loop μ-loop
+add-pair c = omega arith
+
+pair-requires : tie.Need-pair-requires Inv-loop μ-loop
+pair-requires c κs = omega arith
+
+left-of-requires : tie.Need-left-of-requires Inv-loop μ-loop
+left-of-requires c κs = tt
 
 add-out : tie.Need-add-out Inv-loop μ-loop
 add-out c = omega arith
-
-shared-slice-read-out : tie.Need-shared-slice-read-out Inv-loop μ-loop
-shared-slice-read-out c = omega arith
-
-add-out-2 : tie.Need-add-out-2 Inv-loop μ-loop
-add-out-2 c = omega arith
 
 slice-write-out : tie.Need-slice-write-out Inv-loop μ-loop
 slice-write-out c = omega arith
@@ -45,14 +48,14 @@ loop-less c = omega arith
 
 loop-again : tie.Need-loop-again Inv-loop μ-loop
 unfolding halvedSample
-loop-again c = (omega arith, one-sample (c .before .before .loop .inv .1) refl)
+loop-again c = (omega arith, one-sample (c .before .before .before .loop .inv .1) (c .left-of .ensures ∙ c .before .pair .ensures .0))
 
 same-length : tie.Need-same-length Inv-loop μ-loop
 same-length c = c .before .loop .inv .1 .long
 
 returns : tie.Need-returns Inv-loop μ-loop
 returns c =
-    let e : c .before .loop .x ≡ c .before .before .args .width / 2 = omega arith in
+    let e : c .before .loop .x ≡ c .before .before .before .before .args .width / 2 = omega arith in
     rw e at (c .before .loop .inv .1 .are)
 
 pub subsample-row-spec : {M : Type 1} → statement M
@@ -64,10 +67,11 @@ subsample-row-spec =
     mul-top
     mul-top-2
     loop-holds
-    mul-out
+    mul-pair
+    add-pair
+    pair-requires
+    left-of-requires
     add-out
-    shared-slice-read-out
-    add-out-2
     slice-write-out
     add-x
     loop-less

@@ -36,14 +36,17 @@ add-top c = omega arith
 loop-holds : tie.Need-loop-holds Inv-loop μ-loop
 loop-holds c = (omega arith, no-samples _ _ _ _ _ _)
 
-mul-sample : tie.Need-mul-sample Inv-loop μ-loop
-mul-sample c = omega arith
+mul-pair : tie.Need-mul-pair Inv-loop μ-loop
+mul-pair c = omega arith
 
-add-sample : tie.Need-add-sample Inv-loop μ-loop
-add-sample c = omega arith
+add-pair : tie.Need-add-pair Inv-loop μ-loop
+add-pair c = omega arith
 
-slice-read-sample : tie.Need-slice-read-sample Inv-loop μ-loop
-slice-read-sample c = omega arith
+pair-requires : tie.Need-pair-requires Inv-loop μ-loop
+pair-requires c κs = omega arith
+
+left-of-requires : tie.Need-left-of-requires Inv-loop μ-loop
+left-of-requires c κs = tt
 
 add-scratch : tie.Need-add-scratch Inv-loop μ-loop
 add-scratch c = omega arith
@@ -59,17 +62,18 @@ loop-less c = omega arith
 
 loop-again : tie.Need-loop-again Inv-loop μ-loop
 loop-again c =
-    let a = c .before .before .before .args in
-    let l = c .before .before .loop in
+    let a = c .before .before .before .before .before .before .args in
+    let l = c .before .before .before .before .loop in
     let q = l .inv .1 in
-    (omega arith, one-sample q (sample-is (l .scratch) (a .from) (a .width) (l .x) (a .y) ∙ sample-within (a .from) q (omega arith) (omega arith)))
+    let e = sample-is (l .scratch) (a .from) (a .width) (l .x) (a .y) in
+    (omega arith, one-sample q (c .left-of .ensures ∙ c .before .pair .ensures .0 ∙ e ∙ sample-within (a .from) q (omega arith) (omega arith)))
 
 same-length : tie.Need-same-length Inv-loop μ-loop
 same-length c = c .before .loop .inv .1 .long
 
 returns : tie.Need-returns Inv-loop μ-loop
 returns c =
-    let e : c .before .loop .x ≡ c .before .before .args .width / 2 = omega arith in
+    let e : c .before .loop .x ≡ c .before .before .before .args .width / 2 = omega arith in
     rw e at (c .before .loop .inv .1 .are)
 
 pub subsample-row-within-spec : {M : Type 1} → statement M
@@ -82,9 +86,10 @@ subsample-row-within-spec =
     mul-top-2
     add-top
     loop-holds
-    mul-sample
-    add-sample
-    slice-read-sample
+    mul-pair
+    add-pair
+    pair-requires
+    left-of-requires
     add-scratch
     slice-write-scratch
     add-x

@@ -11,10 +11,6 @@ mul-result c = search needs
 element-copy-out-result : tie.Need-element-copy-out-result
 element-copy-out-result c = search needs
 
-cast-result : tie.Need-cast-result
-unfolding laneTotal
-cast-result c = omega arith
-
 add-result : tie.Need-add-result
 add-result c = search needs
 
@@ -23,10 +19,6 @@ mul-result-2 c = search needs
 
 element-copy-out-result-2 : tie.Need-element-copy-out-result-2
 element-copy-out-result-2 c = search needs
-
-cast-result-2 : tie.Need-cast-result-2
-unfolding laneTotal
-cast-result-2 c = omega arith
 
 add-result-2 : tie.Need-add-result-2
 unfolding laneTotal
@@ -41,10 +33,6 @@ mul-result-3 c = search needs
 element-copy-out-result-3 : tie.Need-element-copy-out-result-3
 element-copy-out-result-3 c = search needs
 
-cast-result-3 : tie.Need-cast-result-3
-unfolding laneTotal
-cast-result-3 c = omega arith
-
 add-result-4 : tie.Need-add-result-4
 unfolding laneTotal
 add-result-4 c = omega arith
@@ -58,13 +46,13 @@ mul-result-4 c = search needs
 element-copy-out-result-4 : tie.Need-element-copy-out-result-4
 element-copy-out-result-4 c = search needs
 
-cast-result-4 : tie.Need-cast-result-4
-unfolding laneTotal
-cast-result-4 c = omega arith
-
 add-result-6 : tie.Need-add-result-6
 unfolding laneTotal
 add-result-6 c = omega arith
+
+cast-result : tie.Need-cast-result
+unfolding laneTotal
+cast-result c = omega arith
 
 returns : tie.Need-returns
 unfolding laneTotal
@@ -76,20 +64,17 @@ lane-total-spec =
     (tie.spec
     mul-result
     element-copy-out-result
-    cast-result
     add-result
     mul-result-2
     element-copy-out-result-2
-    cast-result-2
     add-result-2
     add-result-3
     mul-result-3
     element-copy-out-result-3
-    cast-result-3
     add-result-4
     add-result-5
     mul-result-4
     element-copy-out-result-4
-    cast-result-4
     add-result-6
+    cast-result
     returns)
