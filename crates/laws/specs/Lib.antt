@@ -40,3 +40,4 @@ pub mod ChecksStack
 pub mod StackWalks
 pub mod ChecksReport
 pub mod Surveys
+pub mod Demand

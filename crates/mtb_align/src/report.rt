@@ -132,10 +132,10 @@ fn survey(
     ensures { λ r. ⌜ r ≡ length (survey (pairCounts (now (words .entry)) width height) (shiftIn centre) reach floor limit) ⌝ }
     ensures { λ _. ⌜ now (found .exit) ≡ sets (now (found .entry)) at (build (suc (2 * reach)) (λ j. length (rowRivals (pairCounts (now (words .entry)) width height) (shiftIn centre) reach floor limit j))) ⌝ }
 {
-    let side = 2 * reach + 1;
+    let rows = 2 * reach + 1;
     let mut number: usize = 0;
     let mut j: usize = 0;
-    while j < side {
+    while j < rows {
         let here = row_rivals(words, width, height, centre, reach, floor, limit, j);
         found[at + j] = here as u8;
         number += here;
@@ -794,6 +794,9 @@ fn report_within(
     ensures records { λ _. ⌜ now (records .exit) ≡ after (reportChecks [] (recordsNeeded (stackIn width height n (now (samples .entry)) reference options) (termsIn terms)) (length (now (records .entry)))) (recordsBytes (reports.records (stackIn width height n (now (samples .entry)) reference options) (termsIn terms)) ++ drop (20 * recordsNeeded (stackIn width height n (now (samples .entry)) reference options) (termsIn terms)) (now (records .entry))) (now (records .entry)) ⌝ }
     ensures bytes { λ _. ⌜ FreeUpTo (stackNeed n (stepBytes width height (options .bits))) (now (bytes .entry)) (now (bytes .exit)) ⌝ }
     ensures words { λ _. ⌜ FreeUpTo (stackNeed n (stepWords width height)) (now (words .entry)) (now (words .exit)) ⌝ }
+    ensures placed { λ _. ⌜ now (placed .exit) ≡ sets (now (placed .entry)) 0 (listed (stacks.shifts (stackIn width height n (now (samples .entry)) reference options))) ⌝ }
+    ensures found { λ _. ⌜ now (found .exit) ≡ sets (now (found .entry)) 0 (joined n (rowNumbers (stackIn width height n (now (samples .entry)) reference options) (termsIn terms))) ⌝ }
+    ensures judged { λ _. ⌜ now (judged .exit) ≡ sets (now (judged .entry)) 0 (reports.verdicts (stackIn width height n (now (samples .entry)) reference options) (termsIn terms)) ⌝ }
 {
     walk(
         samples,

@@ -144,7 +144,7 @@ returns c =
           e .1 .1 .0 ∙ space-alone-after (first s) (needs-all s) space p _ _,
           (
             e .1 .1 .1 .0 ∙ space-alone-after (first s) (needs-all s) space p _ _,
-            (scratch-free (first s) _ p (e .1 .1 .1 .1 .0), scratch-free (first s) _ p (e .1 .1 .1 .1 .1)),
+            (scratch-free (first s) _ p (e .1 .1 .1 .1 .0), scratch-free (first s) _ p (e .1 .1 .1 .1 .1 .0)),
           ),
         ),
       ),

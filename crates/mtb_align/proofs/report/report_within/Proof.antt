@@ -116,7 +116,13 @@ returns c =
           e .1 .1 .0,
           (
             e .1 .1 .1 .0 ∙ ap (λ (n : ℕ). after l (recordsBytes (records (stack s) q) ++ drop (20 * n) (a .records .now)) (a .records .now)) needed,
-            (c .before .before .before .before .before .before .before .before .before .before .before .before .before .before .before .before .before .before .before .before .before .before .before .before .before .before .before .before .before .before .before .walk .ensures .1 .0, free-then (c .before .before .before .before .before .before .before .before .before .before .before .before .before .before .before .before .before .before .before .before .before .before .before .before .before .before .before .before .before .before .before .walk .ensures .1 .1) (free-then (c .before .before .before .before .before .before .before .before .before .before .before .before .before .before .before .before .before .before .before .before .before .survey-frames .ensures .1 .1 .1) (e .1 .1 .1 .1))),
+            (
+              c .before .before .before .before .before .before .before .before .before .before .before .before .before .before .before .before .before .before .before .before .before .before .before .before .before .before .before .before .before .before .before .walk .ensures .1 .0,
+              (
+                free-then (c .before .before .before .before .before .before .before .before .before .before .before .before .before .before .before .before .before .before .before .before .before .before .before .before .before .before .before .before .before .before .before .walk .ensures .1 .1) (free-then (c .before .before .before .before .before .before .before .before .before .before .before .before .before .before .before .before .before .before .before .before .before .survey-frames .ensures .1 .1 .1) (e .1 .1 .1 .1)),
+                (c .before .before .before .before .before .before .before .before .before .before .before .before .before .before .before .before .before .before .before .before .before .before .before .before .before .before .before .before .before .before .before .walk .ensures .0, (c .before .before .before .before .before .before .before .before .before .before .before .before .before .before .before .before .before .before .before .before .before .survey-frames .ensures .1 .0, c .before .before .before .before .before .before .before .before .before .before .before .before .before .before .before .before .before .before .before .before .before .survey-frames .ensures .1 .1 .0)),
+              ),
+            ),
           ),
         ),
       ),

@@ -17,14 +17,14 @@ use Rattle.mtb_align.proofs.report.survey.Statement.{statement}
 use Rattle.mtb_align.proofs.report.survey.Tie as tie
 
 abbrev Inv-loop : tie.InvT-loop
-Inv-loop words width height centre reach floor limit found₀ at side number₀ j₀ found number j =
-    (side ≡ suc (2 * reach)) × (j ≤ side)
+Inv-loop words width height centre reach floor limit found₀ at rows number₀ j₀ found number j =
+    (rows ≡ suc (2 * reach)) × (j ≤ rows)
     × (number ≡ length (joined j (rowRivals (pairCounts words width height) (shiftIn centre) reach floor limit))) × (number ≤ j * 129)
     × (found ≡ sets found₀ at (build j (λ (i : ℕ). length (rowRivals (pairCounts words width height) (shiftIn centre) reach floor limit i))))
 
 abbrev μ-loop : tie.MeasureT-loop
-μ-loop words width height centre reach floor limit found₀ at side number₀ j₀ found number j =
-    side - j
+μ-loop words width height centre reach floor limit found₀ at rows number₀ j₀ found number j =
+    rows - j
 
 abbrev row : tie.Start Inv-loop μ-loop → ℕ → List Shift
 row s = let a = s .args in rowRivals (pairCounts (a .words .now) (a .width) (a .height)) (shiftIn (a .centre)) (a .reach) (a .floor) (a .limit)
@@ -39,11 +39,11 @@ few c =
 long : (c : tie.At-loop Inv-loop μ-loop) → length (c .loop .found) ≡ length (c .before .before .before .args .found .now)
 long c = let a = c .before .before .before .args in ap length (c .loop .inv .4) ∙ length-sets (a .found .now) (a .at) (build (c .loop .j) (λ (i : ℕ). length (row (c .before .before .before) i)))
 
-mul-side : tie.Need-mul-side Inv-loop μ-loop
-mul-side c = record { fits = omega (arith, c .before .before .pre .2) }
+mul-rows : tie.Need-mul-rows Inv-loop μ-loop
+mul-rows c = record { fits = omega (arith, c .before .before .pre .2) }
 
-add-side : tie.Need-add-side Inv-loop μ-loop
-add-side c = record { fits = omega (arith, c .before .before .pre .2) }
+add-rows : tie.Need-add-rows Inv-loop μ-loop
+add-rows c = record { fits = omega (arith, c .before .before .pre .2) }
 
 loop-holds : tie.Need-loop-holds Inv-loop μ-loop
 loop-holds c =
@@ -102,8 +102,8 @@ survey-spec =
     (tie.spec
     Inv-loop
     μ-loop
-    mul-side
-    add-side
+    mul-rows
+    add-rows
     loop-holds
     row-rivals-requires
     cast-found
