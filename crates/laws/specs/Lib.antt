@@ -40,4 +40,5 @@ pub mod ChecksStack
 pub mod StackWalks
 pub mod ChecksReport
 pub mod Surveys
+pub mod Bands
 pub mod Demand

@@ -28,7 +28,7 @@ use Rattle.laws.specs.Whole.{add, minus, equal}
 use Rattle.laws.specs.Cases.{lt-or-le, eq-or-ne}
 use Rattle.laws.specs.ChecksStack.{neighbour-below, neighbour-above}
 use Rattle.laws.specs.StackWalks.{shift-below, shift-above}
-use borrow.Author.Tests.{le-ltb}
+use borrow.Author.Tests.{le-ltb, lt-leb}
 use Rattle.laws.specs.Records.{rivals-none, rivals-survey, bytes-length}
 
 -- ---- both counts are at most the pixels
@@ -164,6 +164,15 @@ pub row-few : (at : Shift → Counts) (c : Shift) (reach floor limit j : ℕ) �
 unfolding rowRivals windowRow
 row-few at c reach floor limit j = keep-few (isRival at floor limit) (suc (2 * reach)) (windowAt c reach j)
 
+-- a shift that disagrees in more than the limit is none
+pub over-limit : (at : Shift → Counts) (floor limit : ℕ) (s : Shift) → limit < at s .disagreeing → isRival at floor limit s ≡ false
+unfolding isRival
+over-limit at floor limit s h = ap (λ (t : Bool). leb floor (at s .compared) && t) (lt-leb (at s .disagreeing) limit h) ∙ and-false (leb floor (at s .compared))
+  where
+    and-false : (t : Bool) → (t && false) ≡ false
+    and-false true = refl
+    and-false false = refl
+
 -- the test by the counts at the shift
 pub rival-by-counts : (at : Shift → Counts) (floor limit : ℕ) {c : Counts} (s : Shift) → c ≡ at s → isRival (λ (x : Shift). c) floor limit origin ≡ isRival at floor limit s
 unfolding isRival
@@ -184,12 +193,11 @@ module _ (at : Shift → Counts) (centre : Shift) (reach floor limit : ℕ) wher
   unfolding rivalsUpTo
   column-few j i = keep-few (isRival at floor limit) i (windowAt centre reach j)
 
-  pub column-more : (j i : ℕ) {m k d : ℕ} {c : Counts} {s : Shift} → m ≡ length (rivalsUpTo j i) → s ≡ windowAt centre reach j i → c ≡ at s
-      → d ≡ cond (isRival (λ (x : Shift). c) floor limit origin) 1 0 → k ≡ m + d → k ≡ length (rivalsUpTo j (i + 1))
+  pub column-more : (j i : ℕ) {m k d : ℕ} {s : Shift} → m ≡ length (rivalsUpTo j i) → s ≡ windowAt centre reach j i → d ≡ cond (isRival at floor limit s) 1 0 → k ≡ m + d → k ≡ length (rivalsUpTo j (i + 1))
   unfolding rivalsUpTo
-  column-more j i {m} {k} {d} {c} {s} p q e t u =
+  column-more j i {m} {k} {d} {s} p q t u =
       keep-count (isRival at floor limit) i (windowAt centre reach j) p
-      (u ∙ ap (λ (n : ℕ). m + n) (t ∙ ap (λ (b : Bool). cond {A = ℕ} b 1 0) (rival-by-counts at floor limit s e ∙ ap (isRival at floor limit) q)))
+      (u ∙ ap (λ (n : ℕ). m + n) (t ∙ ap (λ (z : Shift). cond {A = ℕ} (isRival at floor limit z) 1 0) q))
 
   pub column-all : (j : ℕ) {i m : ℕ} → i ≡ suc (2 * reach) → m ≡ length (rivalsUpTo j i) → m ≡ length (rowRivals at centre reach floor limit j)
   unfolding rowRivals windowRow rivalsUpTo

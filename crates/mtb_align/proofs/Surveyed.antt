@@ -3,7 +3,7 @@ use mathlib.Core.Path.{_≡_, refl, sym, ap, ap₂, _∙_, subst, fun-ext}
 use mathlib.Core.Bool.{Bool, cond}
 use mathlib.Core.List.{List}
 use mathlib.Core.Logic.{⊎-elim}
-use Prim.Native.Nat.{ℕ, suc, _+_, _*_, _<_, _≤_}
+use Prim.Native.Nat.{ℕ, suc, _+_, _-_, _*_, _/_, _<_, _≤_}
 use native.Mathlib.Nat.{mul-comm, mul-le-mul-right, eq-or-lt-of-le}
 use native.Mathlib.Omega.{arith}
 use borrow.Author.Tests.{eq-eqb, ne-eqb}
@@ -20,6 +20,7 @@ use Rattle.definitions.specs.Difference as difference
 use Rattle.definitions.specs.Align.{neighbour, exposure, bitmapsAt, countsAt, stepOf, shiftOf, shifts, stepWords, stackNeed}
 use Rattle.definitions.specs.Refusals.{FreeUpTo}
 use Rattle.definitions.specs.Report.{Terms, survey, frameCounts, limitOf, rivals, verdict}
+use Rattle.laws.specs.Bands.{band-part, band-none}
 use Rattle.laws.specs.Cases.{lt-or-le}
 use Rattle.laws.specs.Crop.{listed-length}
 use Rattle.laws.specs.Lists.{build-at, build-const, build-length}
@@ -34,7 +35,7 @@ use Rattle.mtb_align.specs.declared.geometry.Shift.{Shift}
 use Rattle.mtb_align.specs.Answers.{countsIn, shiftIn}
 use Rattle.mtb_align.specs.Search.{mapAt, TwoPairs, pairCounts, exposureOf, fourOf, optionsIn}
 use Rattle.mtb_align.specs.Stack.{stackIn, frameIn, Ready}
-use Rattle.mtb_align.specs.Survey.{Framed, Placed, rowNumbers}
+use Rattle.mtb_align.specs.Survey.{Framed, Placed, rowNumbers, sampleOf}
 use Rattle.mtb_align.proofs.Four.{four-front, four-free, four-pairs, four-counts}
 
 -- both counts are at most the pixels of the largest frame
@@ -46,6 +47,16 @@ counted-few {words} {w} {h} q s c e =
       omega (arith, few .0, most, mul-comm w h, ap (λ (n : difference.Counts). n .disagreeing) e),
       omega (arith, few .1, most, mul-comm w h, ap (λ (n : difference.Counts). n .compared) e),
     )
+
+-- a sample of a count is part of it
+pub sample-part : {words : List ℕ} {w h : ℕ} → TwoPairs words w h → (s : geometry.Shift) → sampleOf words w h s ≤ pairCounts words w h s .disagreeing
+unfolding sampleOf pairCounts
+sample-part {words} {w} {h} q s =
+    let rows = (h - (geometry.ahead (s .y) + geometry.behind (s .y))) / 8 in
+    ⊎-elim
+    (λ (l : geometry.ahead (s .y) + geometry.behind (s .y) < h). band-part w (mapAt words w h 0) (mapAt words w h 1) (mapAt words w h 2) (mapAt words w h 3) s rows h (omega arith))
+    (λ (l : h ≤ geometry.ahead (s .y) + geometry.behind (s .y)). omega (arith, band-none w (mapAt words w h 0) (mapAt words w h 1) (mapAt words w h 2) (mapAt words w h 3) s rows (omega arith)))
+    (lt-or-le (geometry.ahead (s .y) + geometry.behind (s .y)) h)
 
 -- two frames are more than one
 two-frames : {n r k : ℕ} → (k ≡ r → ⊥) → r < n → k < n → 1 < n

@@ -1,5 +1,5 @@
 -- The report's answer in document 01's terms, and what its inner functions compute of a stack.
-use Prim.Native.Nat.{ℕ, suc, _*_, _≤_}
+use Prim.Native.Nat.{ℕ, suc, _+_, _-_, _*_, _/_, _≤_}
 use mathlib.Core.Path.{_≡_}
 use mathlib.Core.Bool.{cond}
 use mathlib.Core.List.{List}
@@ -11,12 +11,14 @@ use Rattle.definitions.specs.Geometry as geometry
 use Rattle.definitions.specs.Align.{Stack, stepOf, shifts, stepWords, stackNeed}
 use Rattle.definitions.specs.Refusals.{Answer, accepted}
 use Rattle.definitions.specs.Report.{Terms, frameCounts, limitOf}
+use Rattle.laws.specs.Bands.{bandDisagreeing}
 use Rattle.laws.specs.Surveys.{rowRivals}
 use Rattle.mtb_align.specs.declared.report.Terms as code
 use Rattle.mtb_align.specs.declared.report.Summary.{Summary}
 use Rattle.mtb_align.specs.declared.report.ReportAnswer.{ReportAnswer}
 use Rattle.mtb_align.specs.declared.report.ReportAnswer.the-variants as reports
 use Rattle.mtb_align.specs.Answers.{refusal, rectIn}
+use Rattle.mtb_align.specs.Search.{mapAt}
 
 -- ---- the answer
 
@@ -56,3 +58,10 @@ pub record Placed (a : Stack) (list : List ℤ) : Type 0 where
 unfoldable pub rowNumbers : Stack → Terms → ℕ → List ℕ
 rowNumbers a q k =
     build (suc (2 * q .reach)) (λ (j : ℕ). cond (eqb k (a .reference)) 0 (length (rowRivals (frameCounts a k) (stepOf a k) (q .reach) (q .floor) (limitOf a q k) j)))
+
+-- ---- a sample of a count
+
+-- In how many pixels of the first rows that they share two pairs disagree at a shift: an eighth of those rows.
+unfoldable pub sampleOf : List ℕ → ℕ → ℕ → geometry.Shift → ℕ
+sampleOf words w h s =
+    bandDisagreeing w (mapAt words w h 0) (mapAt words w h 1) (mapAt words w h 2) (mapAt words w h 3) s ((h - (geometry.ahead (s .y) + geometry.behind (s .y))) / 8)

@@ -7,6 +7,7 @@ use super::align::scratch_fits;
 use super::align::walk;
 use super::bitmap::words_per_row;
 use super::difference::Counts;
+use super::difference::count;
 use super::error::Error;
 use super::error::Outcome;
 use super::geometry::CropAnswer;
@@ -32,12 +33,14 @@ ghost use Rattle.definitions.specs.Align as stacks;
 ghost use Rattle.definitions.specs.Refusals.{answer, after, FreeUpTo, Scratch, surveyChecks, reportChecks};
 ghost use Rattle.definitions.specs.Report.{isRival, survey, frameCounts, rivals, bytes32, twosComplement, recordBytes, recordsBytes, recordsNeeded, frameRecords, verdict, reportCrop};
 ghost use Rattle.definitions.specs.Report as reports;
+ghost use Rattle.definitions.specs.Difference.{bitmapsIn, counts};
+ghost use Rattle.laws.specs.Bands.{band};
 ghost use Rattle.laws.specs.Steps.{Within};
 ghost use Rattle.laws.specs.Surveys.{windowAt, rowRivals, bytesOf};
 ghost use Rattle.mtb_align.specs.Answers.{outcome, shiftIn, countsIn, rectIn};
-ghost use Rattle.mtb_align.specs.Search.{TwoPairs, pairCounts, exposureOf, fourOf, optionsIn};
+ghost use Rattle.mtb_align.specs.Search.{mapAt, TwoPairs, pairCounts, exposureOf, fourOf, optionsIn};
 ghost use Rattle.mtb_align.specs.Stack.{stackIn, frameIn, Ready};
-ghost use Rattle.mtb_align.specs.Survey.{termsIn, Reported, reportAnswer, Framed, Placed, rowNumbers};
+ghost use Rattle.mtb_align.specs.Survey.{termsIn, Reported, reportAnswer, Framed, Placed, rowNumbers, sampleOf};
 
 // How far from a step its rivals are sought, how many pixels a rival compares at least, and in how many more than the step it may
 // disagree.
@@ -91,6 +94,79 @@ fn one_if_rival(counts: Counts, floor: u64, limit: u64) -> usize
     0
 }
 
+// In how many pixels `rows` rows of the reference from row `up` on and of the target from row `down` on disagree, the target moved by
+// x columns.
+fn band_disagreeing(
+    words: &[u64],
+    width: usize,
+    height: usize,
+    x: i32,
+    up: usize,
+    down: usize,
+    rows: usize,
+) -> u64
+    requires { ⌜ TwoPairs (now words) width height × (up + rows ≤ height) × (down + rows ≤ height) ⌝ }
+    ensures { λ r. ⌜ r ≡ counts width rows (bitmapsIn width (band width (mapAt (now (words .entry)) width height 0) up rows) (band width (mapAt (now (words .entry)) width height 1) up rows)) (bitmapsIn width (band width (mapAt (now (words .entry)) width height 2) down rows) (band width (mapAt (now (words .entry)) width height 3) down rows)) (record { x = x; y = pos 0 }) .disagreeing ⌝ }
+{
+    let n = words_per_row(width);
+    let size = height * n;
+    let len = rows * n;
+    let first = up * n;
+    let second = size + first;
+    let third = 2 * size + down * n;
+    let fourth = 3 * size + down * n;
+    let counts = count(
+        &words[first..first + len],
+        &words[second..second + len],
+        &words[third..third + len],
+        &words[fourth..fourth + len],
+        width,
+        rows,
+        Shift { x, y: 0 },
+    );
+    counts.disagreeing
+}
+
+// In how many pixels two pairs disagree at a shift in an eighth of the rows that they share, the first of them. That is part of the
+// whole count, so that most shifts are told to be no rivals for an eighth of its cost.
+fn sampled(words: &[u64], width: usize, height: usize, shift: Shift) -> u64
+    requires { ⌜ TwoPairs (now words) width height ⌝ }
+    ensures { λ r. ⌜ r ≡ sampleOf (now (words .entry)) width height (shiftIn shift) ⌝ }
+{
+    let up = above(shift.y);
+    let down = below(shift.y);
+    if height <= up + down {
+        return 0;
+    }
+    band_disagreeing(
+        words,
+        width,
+        height,
+        shift.x,
+        up,
+        down,
+        (height - (up + down)) / 8,
+    )
+}
+
+// 1 for a shift that is a rival.
+fn rival_at(
+    words: &[u64],
+    width: usize,
+    height: usize,
+    shift: Shift,
+    floor: u64,
+    limit: u64,
+) -> usize
+    requires { ⌜ TwoPairs (now words) width height ⌝ }
+    ensures { λ r. ⌜ r ≡ cond (isRival (pairCounts (now (words .entry)) width height) floor limit (shiftIn shift)) 1 0 ⌝ }
+{
+    if limit < sampled(words, width, height, shift) {
+        return 0;
+    }
+    one_if_rival(counts_at(words, width, height, shift), floor, limit)
+}
+
 // How many rivals row j of the window has.
 fn row_rivals(
     words: &[u64],
@@ -109,8 +185,8 @@ fn row_rivals(
     let mut number: usize = 0;
     let mut i: usize = 0;
     while i < side {
-        let counts = counts_at(words, width, height, in_window(centre, reach, i, j));
-        number += one_if_rival(counts, floor, limit);
+        let shift = in_window(centre, reach, i, j);
+        number += rival_at(words, width, height, shift, floor, limit);
         i += 1;
     }
     number

@@ -19,13 +19,12 @@ abbrev μ-loop : tie.MeasureT-loop
     side - i
 
 -- they are few
-few : (c : tie.After-one-if-rival Inv-loop μ-loop) → c .before .before .before .before .loop .number + c .one-if-rival .result ≤ c .before .before .before .before .loop .i + 1
+few : (c : tie.After-rival-at Inv-loop μ-loop) → c .before .before .before .loop .number + c .rival-at .result ≤ c .before .before .before .loop .i + 1
 few c =
-    let l = c .before .before .before .before .loop .inv in
-    let k = c .before .before .before .before .loop .i in
-    let a = c .before .before .before .before .before .before .args in
-    let next = column-more (pairCounts (a .words .now) (a .width) (a .height)) (shiftIn (a .centre)) (a .reach) (a .floor) (a .limit) (a .j) k (l .2) (c .before .before .in-window .ensures) (c .before .counts-at .ensures) (c .one-if-rival .ensures) refl in
-    omega (arith, next, column-few (pairCounts (a .words .now) (a .width) (a .height)) (shiftIn (a .centre)) (a .reach) (a .floor) (a .limit) (a .j) (k + 1))
+    let l = c .before .before .before .loop in
+    let a = c .before .before .before .before .before .args in
+    let next = column-more (pairCounts (a .words .now) (a .width) (a .height)) (shiftIn (a .centre)) (a .reach) (a .floor) (a .limit) (a .j) (l .i) (l .inv .2) (c .before .in-window .ensures) (c .rival-at .ensures) refl in
+    omega (arith, next, column-few (pairCounts (a .words .now) (a .width) (a .height)) (shiftIn (a .centre)) (a .reach) (a .floor) (a .limit) (a .j) (l .i + 1))
 
 mul-side : tie.Need-mul-side Inv-loop μ-loop
 mul-side c = record { fits = omega (arith, c .before .pre .2) }
@@ -39,27 +38,24 @@ loop-holds c = (omega arith, omega arith, column-none _ _ _ _ _ _)
 in-window-requires : tie.Need-in-window-requires Inv-loop μ-loop
 in-window-requires c κs = let s = c .before .before .before in let l = c .before .loop .inv in (s .pre .1, s .pre .2, omega (arith, l .0, s .pre .2), omega (arith, s .pre .2, s .pre .3))
 
-counts-at-requires : tie.Need-counts-at-requires Inv-loop μ-loop
-counts-at-requires c κs = c .before .before .before .before .pre .0
-
-one-if-rival-requires : tie.Need-one-if-rival-requires Inv-loop μ-loop
-one-if-rival-requires c κs = search needs
+rival-at-requires : tie.Need-rival-at-requires Inv-loop μ-loop
+rival-at-requires c κs = c .before .before .before .before .pre .0
 
 add-number : tie.Need-add-number Inv-loop μ-loop
-add-number c = record { fits = omega (arith, few c, c .before .before .before .before .loop .inv .0, c .before .before .before .before .before .before .pre .2) }
+add-number c = record { fits = omega (arith, few c, c .before .before .before .loop .inv .0, c .before .before .before .before .before .pre .2) }
 
 add-i : tie.Need-add-i Inv-loop μ-loop
-add-i c = record { fits = omega (arith, c .before .before .before .before .loop .inv .0, c .before .before .before .before .before .before .pre .2) }
+add-i c = record { fits = omega (arith, c .before .before .before .loop .inv .0, c .before .before .before .before .before .pre .2) }
 
 loop-less : tie.Need-loop-less Inv-loop μ-loop
-loop-less c = omega (arith, c .before .before .before .loop-test .taken)
+loop-less c = omega (arith, c .before .before .loop-test .taken)
 
 loop-again : tie.Need-loop-again Inv-loop μ-loop
 loop-again c =
-    let l = c .before .before .before .before .loop .inv in (
+    let l = c .before .before .before .loop .inv in (
       l .0,
-      omega (arith, c .before .before .before .loop-test .taken),
-      column-more _ _ _ _ _ _ _ (l .2) (c .before .before .in-window .ensures) (c .before .counts-at .ensures) (c .one-if-rival .ensures) refl,
+      omega (arith, c .before .before .loop-test .taken),
+      column-more _ _ _ _ _ _ _ (l .2) (c .before .in-window .ensures) (c .rival-at .ensures) refl,
     )
 
 returns : tie.Need-returns Inv-loop μ-loop
@@ -75,8 +71,7 @@ row-rivals-spec =
     add-side
     loop-holds
     in-window-requires
-    counts-at-requires
-    one-if-rival-requires
+    rival-at-requires
     add-number
     add-i
     loop-less
