@@ -8,7 +8,7 @@
  *    4  sizes differ                             10  record space too short
  *    5  no such reference                        11  pixel outside
  *    6  over 16 frames                           12  coordinate outside 32 bits
- * A refused call changes no buffer.
+ * A refused call changes no buffer, but for what the stack and the report say below.
  *
  * A list passes as a pointer and its length in elements. Pointers are aligned and never null, not at length 0 either, and what a
  * call writes overlaps nothing else that it is lent.
@@ -94,12 +94,30 @@ uint32_t mtb_shift(const uint8_t *reference, size_t reference_length, size_t wid
                    int32_t *x, int32_t *y, uint64_t *comparisons);
 
 /* The shift of every frame of a stack, x then y, where samples has the frames one after another. Refused: 6; 2 for heights; 1; 3; 5; 4; 2 for
-   samples, shifts; 7. Writes shifts, and the scratch of a step of two of its frames, none for one frame. */
+   samples, shifts; 7. Writes shifts, and the scratch of a step of two of its frames, none for one frame. Refused by 5 or 4, writes the front of
+   values: under 5 the reference and the number of frames; under 4 width and height of a frame, those of the next on the walk away from the
+   reference, and the number of the latter. */
 uint32_t mtb_align_stack(const size_t *widths, size_t widths_length, const size_t *heights, size_t heights_length,
                          const uint8_t *samples, size_t samples_length, size_t reference,
                          uint32_t bits, uint8_t tolerance, uint8_t percentile, bool subsampled,
                          int32_t *shifts, size_t shifts_length,
-                         uint8_t *bytes, size_t bytes_length, uint64_t *words, size_t words_length);
+                         uint8_t *bytes, size_t bytes_length, uint64_t *words, size_t words_length,
+                         size_t values[5]);
+
+/* Every rival of each frame's step: a shift within reach of the step that compares at least floor pixels and disagrees in at most margin more
+   than the step. Refused: as the stack, with verdicts after shifts in the last 2 and 9 before 7; 10. Writes shifts, the scratch of the
+   stack, verdicts (0 reference, 1 weak, 2 alone, 3 contested), the crop of the shifts (left, top, wide, high), count, and count records of 20
+   bytes to the front of records: frame, x, y, disagreeing, compared, 32 bits each, low byte first. Refused by 5 or 4, writes values as the stack
+   does; by 10, the number of records needed to count and to the first of values, and the scratch. */
+uint32_t mtb_report(const size_t *widths, size_t widths_length, const size_t *heights, size_t heights_length,
+                    const uint8_t *samples, size_t samples_length, size_t reference,
+                    uint32_t bits, uint8_t tolerance, uint8_t percentile, bool subsampled,
+                    uint32_t reach, uint32_t floor, uint32_t margin,
+                    int32_t *shifts, size_t shifts_length, uint8_t *verdicts, size_t verdicts_length,
+                    uint8_t *records, size_t records_length,
+                    uint8_t *bytes, size_t bytes_length, uint64_t *words, size_t words_length,
+                    size_t *left, size_t *top, size_t *wide, size_t *high, size_t *count,
+                    size_t values[5]);
 
 #ifdef __cplusplus
 }

@@ -61,12 +61,14 @@ pub fn shift(
     }
 }
 
-/// Of an accepted call, the scratch that it needs holds anything.
+/// Of an accepted call, the scratch that it needs holds anything. A refused one puts
+/// its values at the front of `values`.
 pub fn align_stack(
     stack: Stack,
     options: &Options,
     shifts: &mut [i32],
     (bytes, words): (&mut [u8], &mut [u64]),
+    values: &mut [usize; 5],
 ) -> u32 {
     unsafe extern "C" {
         fn mtb_align_stack(
@@ -87,6 +89,7 @@ pub fn align_stack(
             bytes_length: usize,
             words: *mut u64,
             words_length: usize,
+            values: *mut usize,
         ) -> u32;
     }
     unsafe {
@@ -108,6 +111,7 @@ pub fn align_stack(
             bytes.len(),
             words.as_mut_ptr(),
             words.len(),
+            values.as_mut_ptr(),
         )
     }
 }

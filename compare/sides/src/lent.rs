@@ -5,7 +5,7 @@ use std::fmt::{self, Debug, Display};
 use std::ops::Range;
 
 use compare::inputs::Random;
-use compare::trials::Outcome;
+use compare::trials::{Outcome, same};
 
 /// What a list is made of.
 pub trait Element: Copy + PartialEq + Debug {
@@ -75,6 +75,11 @@ impl<T: Element> Lent<T> {
         &mut self.list_mut()[0]
     }
 
+    /// For a list of a length that the port knows.
+    pub fn array_mut<const N: usize>(&mut self) -> &mut [T; N] {
+        self.list_mut().try_into().expect("room for just as many")
+    }
+
     /// The list as it was lent.
     pub fn list_before(&self) -> &[T] {
         &self.before[self.lent.clone()]
@@ -95,6 +100,18 @@ impl<T: Element> Lent<T> {
             _ => self.is_kept(input)?,
         }
         Ok(self.list().to_vec())
+    }
+
+    /// The list begins with these elements, and nothing else has changed.
+    pub fn begins_with(&self, front: &[T], input: &str) -> Outcome {
+        let start = self.lent.start;
+        same(
+            input,
+            ("port", &self.list()[..front.len()]),
+            ("naive", front),
+        )?;
+        self.are_kept(input, 0..start)?;
+        self.are_kept(input, start + front.len()..self.all.len())
     }
 
     /// A scratch after a call that may leave anything in its first `need` elements,

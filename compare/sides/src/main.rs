@@ -6,6 +6,7 @@ mod counts;
 mod frames;
 mod lent;
 mod moves;
+mod report;
 mod search;
 
 use std::fmt::Debug;
@@ -14,7 +15,7 @@ use std::process::ExitCode;
 use compare::trials::{self, Call, Outcome, call, same};
 use naive::Refusal;
 
-const CALLS: [Call; 16] = [
+const CALLS: [Call; 17] = [
     call("from_rgb", 3000, frames::from_rgb),
     call("shrink2 average", 3000, frames::shrink2_average),
     call("shrink2 subsample", 3000, frames::shrink2_subsample),
@@ -31,6 +32,7 @@ const CALLS: [Call; 16] = [
     call("disagreement", 6000, counts::disagreement),
     call("shift", 4000, search::shift),
     call("align_stack", 4000, search::align_stack),
+    call("report", 4000, report::report),
 ];
 
 fn main() -> ExitCode {

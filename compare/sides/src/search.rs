@@ -4,6 +4,7 @@ use compare::frames::Frames;
 use compare::inputs::{Random, options, size};
 use compare::trials::Outcome;
 use compare::{original, recount, scenes};
+use naive::Refusal;
 use naive::align::{self, Scratch, Step};
 use naive::geometry::Shift;
 use naive::gray::Frame;
@@ -13,7 +14,7 @@ use crate::agreed;
 use crate::lent::Lent;
 
 /// One too many or too few.
-fn wrong(random: &mut Random, length: usize) -> usize {
+pub fn wrong(random: &mut Random, length: usize) -> usize {
     match random.one_in(2) {
         true => length + 1,
         false => length.saturating_sub(1),
@@ -21,16 +22,25 @@ fn wrong(random: &mut Random, length: usize) -> usize {
 }
 
 /// The bytes and words of a scratch: what is needed, or some more.
-fn enough(random: &mut Random, need: Scratch) -> Scratch {
+pub fn enough(random: &mut Random, need: Scratch) -> Scratch {
     Scratch {
         bytes: need.bytes + random.below(3),
         words: need.words + random.below(3),
     }
 }
 
-fn lent(random: &mut Random, scratch: Scratch) -> (Lent<u8>, Lent<u64>) {
+pub fn lent(random: &mut Random, scratch: Scratch) -> (Lent<u8>, Lent<u64>) {
     let bytes = Lent::room(random, scratch.bytes);
     (bytes, Lent::room(random, scratch.words))
+}
+
+/// The values of a refusal stand at the front of their list; an accepted call leaves it.
+pub fn told<T>(values: &Lent<usize>, naive: &Result<T, Refusal>, input: &str) -> Outcome {
+    let front: Vec<usize> = match naive {
+        Ok(_) => vec![],
+        Err(refusal) => refusal.values.iter().map(|&value| value as usize).collect(),
+    };
+    values.begins_with(&front, input)
 }
 
 pub fn shift(random: &mut Random, _: usize) -> Outcome {
@@ -142,6 +152,7 @@ pub fn align_stack(random: &mut Random, _: usize) -> Outcome {
     let samples = Lent::holding(random, &frames.samples);
     let mut shifts = Lent::room(random, room);
     let (mut bytes, mut words) = lent(random, scratch);
+    let mut values = Lent::room(random, 5);
     let input = format!("{frames}, {options:?}, shifts {shifts}, {scratch:?}");
 
     let mut stack = frames.stack();
@@ -151,14 +162,17 @@ pub fn align_stack(random: &mut Random, _: usize) -> Outcome {
         &options,
         shifts.list_mut(),
         (bytes.list_mut(), words.list_mut()),
+        values.array_mut(),
     );
     samples.is_kept(&input)?;
     bytes.used_up_to(need.bytes, &input, status)?;
     words.used_up_to(need.words, &input, status)?;
+    let naive = align::align_stack(stack, &options, room, scratch);
+    told(&values, &naive, &input)?;
     agreed(
         &input,
         (status, shifts.after(&input, status)?),
-        align::align_stack(stack, &options, room, scratch),
+        naive,
         Some(|| original::align_stack(stack, &options)),
     )
 }

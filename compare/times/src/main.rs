@@ -7,6 +7,7 @@ mod inputs;
 mod moves;
 mod original;
 mod race;
+mod report;
 mod search;
 
 use inputs::{Input, Kind, SIZES, Size};
@@ -47,7 +48,7 @@ impl Timed {
 type Call = (&'static str, fn(&Input) -> Vec<Timed>);
 
 /// Calls timed on every input.
-const CALLS: [Call; 8] = [
+const CALLS: [Call; 9] = [
     ("from_rgb", frames::from_rgb),
     ("shrink2", frames::shrink2),
     (frames::COMPUTE_BITMAPS, frames::cut_and_bitmaps), // and threshold, in one race
@@ -56,6 +57,7 @@ const CALLS: [Call; 8] = [
     ("disagreement", counts::disagreement),
     ("shift", search::shift),
     ("align_stack", search::align_stack),
+    ("report", report::report),
 ];
 
 /// Calls whose time has nothing to do with the input.
@@ -80,13 +82,15 @@ fn main() {
 
     println!(
         "Nanoseconds of processor time per call, the least of {} rounds in which both sides
-take turns.
+take turns, of fewer where a report takes long.
 Both are built for release without overflow checks and called by C's convention, never
 inlined. The original allocates its answer in every call and frees it, the port writes
 to buffers made before.
 The ratio is original to port; `<` marks one below the goal.
 Packing alone is compute_bitmaps less threshold on the port's side, and the whole of
 compute_bitmaps on the original's. Percentile 50, tolerance 4.
+A report is of two frames, at bits 1, floor 1 and margin 0; there the original counts
+once at each shift that the report surveys, in bitmaps packed before.
 Inputs: noise, any bytes; pins, even rows of bright pins, 6 of 16 columns and 24 of 40
 rows, in light that changes by row; flat, 128 throughout. RGB has each sample thrice.",
         PASSES * race::ROUNDS

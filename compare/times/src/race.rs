@@ -4,26 +4,39 @@ pub const ROUNDS: usize = 12;
 /// What a turn takes at least, in nanoseconds: little, so that many are undisturbed.
 const TURN: f64 = 600_000.0;
 
-/// Nanoseconds per run of each side, the least of all rounds. In a round every side
-/// has its turn, so that all meet the same weather.
-pub fn race<const SIDES: usize>(mut sides: [&mut dyn FnMut(); SIDES]) -> [f64; SIDES] {
-    let runs = sides.each_mut().map(|side| runs_of_a_turn(*side));
-    let mut least = [f64::INFINITY; SIDES];
-    for _ in 0..ROUNDS {
+pub fn race<const SIDES: usize>(sides: [&mut dyn FnMut(); SIDES]) -> [f64; SIDES] {
+    race_of(ROUNDS, sides)
+}
+
+/// Nanoseconds per run of each side, the least of all rounds and of the turn that finds
+/// how often a side runs. In a round every side has its turn, so that all meet the same
+/// weather.
+pub fn race_of<const SIDES: usize>(
+    rounds: usize,
+    mut sides: [&mut dyn FnMut(); SIDES],
+) -> [f64; SIDES] {
+    let first = sides.each_mut().map(|side| first_turn(*side));
+    let mut least = first.map(|(runs, turn)| turn / f64::from(runs));
+    for _ in 0..rounds {
         for side in 0..SIDES {
-            let turn = time(sides[side], runs[side]);
-            least[side] = least[side].min(turn / f64::from(runs[side]));
+            let (runs, _) = first[side];
+            let turn = time(sides[side], runs);
+            least[side] = least[side].min(turn / f64::from(runs));
         }
     }
     least
 }
 
-fn runs_of_a_turn(side: &mut dyn FnMut()) -> u32 {
+/// How many runs a turn has, and how long they took.
+fn first_turn(side: &mut dyn FnMut()) -> (u32, f64) {
     let mut runs = 1;
-    while time(side, runs) < TURN {
+    loop {
+        let turn = time(side, runs);
+        if turn >= TURN {
+            return (runs, turn);
+        }
         runs *= 2;
     }
-    runs
 }
 
 fn time(side: &mut dyn FnMut(), runs: u32) -> f64 {

@@ -92,6 +92,7 @@ pub fn align_stack(input: &Input) -> Vec<Timed> {
                 reference: count / 2,
             };
             let mut shifts = vec![0; 2 * count];
+            let mut values = [0; 5];
             let times = race([
                 &mut || {
                     let frames = black_box(&frames);
@@ -108,7 +109,13 @@ pub fn align_stack(input: &Input) -> Vec<Timed> {
                 &mut || {
                     let scratch = (&mut bytes[..], &mut words[..]);
                     let stack = *black_box(&stack);
-                    accepted(port::align_stack(stack, &OPTIONS, &mut shifts, scratch));
+                    accepted(port::align_stack(
+                        stack,
+                        &OPTIONS,
+                        &mut shifts,
+                        scratch,
+                        &mut values,
+                    ));
                 },
             ]);
             timed(name, GOAL, input, times)

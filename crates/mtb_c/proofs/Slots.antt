@@ -1,11 +1,12 @@
--- A call's answer with a value as a status and a slot: the value goes into the slot of an accepted call, and a refusal leaves the
--- slot as it was. Assumes nothing.
+-- A call's answer with a value as a status, a slot and a list of values: the value goes into the slot of an accepted call, and a
+-- refusal leaves the slot as it was and puts its values into the list. Assumes nothing.
 use mathlib.Core.Path.{_≡_, sym, ap, _∙_}
 use mathlib.Core.List.{List}
 use Prim.Native.Nat.{ℕ}
-use Rattle.definitions.specs.Refusals.{Check, accepted, refused, answer, after}
+use lib.Seq.{sets}
+use Rattle.definitions.specs.Refusals.{Check, Answer, accepted, refused, answer, after}
 use Rattle.laws.specs.Checks.{accepted-too, refused-too, after-accepted, after-refused}
-use Rattle.mtb_c.specs.Status.{statusOf}
+use Rattle.mtb_c.specs.Status.{statusOf, valuesAfter}
 
 module _ {A : Type 0} (l : List Check) (v : A) where
   -- accepted: the status is 0, and a slot for a part of the value holds that part
@@ -19,6 +20,9 @@ module _ {A : Type 0} (l : List Check) (v : A) where
         let q : w ≡ v = cc in
         ap part q ∙ sym (after-accepted v l (part v) old (sym e))
 
+    pub values-kept : (old : List ℕ) → old ≡ valuesAfter (answer l (tt {0})) old
+    values-kept old = sym (ap (λ (a : Answer (Unit {0})). valuesAfter a old) (accepted-too v (tt {0}) l (sym e)))
+
   -- refused: the status is the refusal's number, and a slot holds what it held
   module _ {n : ℕ} {values : List ℕ} (e : refused n values ≡ answer l v) where
     pub status-refused : {m : ℕ} → m ≡ n → m ≡ statusOf (answer l (tt {0}))
@@ -26,6 +30,9 @@ module _ {A : Type 0} (l : List Check) (v : A) where
 
     pub kept : {B : Type 0} (new old : B) → old ≡ after l new old
     kept new old = sym (after-refused v l new old (sym e))
+
+    pub values-told : (old : List ℕ) {new : List ℕ} → new ≡ sets old 0 values → new ≡ valuesAfter (answer l (tt {0})) old
+    values-told old p = p ∙ sym (ap (λ (a : Answer (Unit {0})). valuesAfter a old) (refused-too v (tt {0}) l (sym e)))
 
   -- a call with one slot for the whole value
   pub slot-accepted : (old : A) {w : A} → accepted w ≡ answer l v → (0 ≡ statusOf (answer l (tt {0}))) × (w ≡ after l v old)

@@ -1,6 +1,6 @@
 // The step of two frames and the stack.
 use super::frames::mode;
-use super::frames::status;
+use super::refusals::status_with;
 use mtb_align::align::Options;
 use mtb_align::align::StepAnswer;
 ghost use mathlib.Core.Path.{_≡_};
@@ -10,7 +10,7 @@ ghost use Rattle.definitions.specs.Align.{step, comparisons as comparisonsOf, s
 ghost use Rattle.definitions.specs.Align as stacks;
 ghost use Rattle.definitions.specs.Refusals.{answer, after, Scratch, stepChecks, stackChecks};
 ghost use Rattle.mtb_align.specs.Search.{exposureOf};
-ghost use Rattle.mtb_c.specs.Status.{statusOf, optionsOf};
+ghost use Rattle.mtb_c.specs.Status.{statusOf, valuesAfter, optionsOf};
 
 #[no_mangle]
 pub extern "C" fn mtb_shift(
@@ -79,11 +79,13 @@ pub extern "C" fn mtb_align_stack(
     shifts: &mut [i32],
     bytes: &mut [u8],
     words: &mut [u64],
+    values: &mut [usize; 5],
 ) -> u32
     ensures status { λ r. ⌜ r ≡ statusOf (answer (stackChecks (now (widths .entry)) (now (heights .entry)) percentile reference bits (length (now (samples .entry))) (length (now (shifts .entry))) (length (now (bytes .entry))) (length (now (words .entry)))) (tt {0})) ⌝ }
     ensures shifts { λ _. ⌜ now (shifts .exit) ≡ after (stackChecks (now (widths .entry)) (now (heights .entry)) percentile reference bits (length (now (samples .entry))) (length (now (shifts .entry))) (length (now (bytes .entry))) (length (now (words .entry)))) (listed (stacks.shifts (stackOf (now (widths .entry)) (now (heights .entry)) (now (samples .entry)) reference percentile (optionsOf bits tolerance subsampled)))) (now (shifts .entry)) ⌝ }
     ensures bytes { λ _. ⌜ Scratch (stackChecks (now (widths .entry)) (now (heights .entry)) percentile reference bits (length (now (samples .entry))) (length (now (shifts .entry))) (length (now (bytes .entry))) (length (now (words .entry)))) (stackNeed (length (now (widths .entry))) (stepBytes (getD (now (widths .entry)) 0 0) (getD (now (heights .entry)) 0 0) bits)) (now (bytes .entry)) (now (bytes .exit)) ⌝ }
     ensures words { λ _. ⌜ Scratch (stackChecks (now (widths .entry)) (now (heights .entry)) percentile reference bits (length (now (samples .entry))) (length (now (shifts .entry))) (length (now (bytes .entry))) (length (now (words .entry)))) (stackNeed (length (now (widths .entry))) (stepWords (getD (now (widths .entry)) 0 0) (getD (now (heights .entry)) 0 0))) (now (words .entry)) (now (words .exit)) ⌝ }
+    ensures values { λ _. ⌜ now (values .exit) ≡ valuesAfter (answer (stackChecks (now (widths .entry)) (now (heights .entry)) percentile reference bits (length (now (samples .entry))) (length (now (shifts .entry))) (length (now (bytes .entry))) (length (now (words .entry)))) (tt {0})) (now (values .entry)) ⌝ }
 {
     let options = Options {
         bits,
@@ -91,14 +93,17 @@ pub extern "C" fn mtb_align_stack(
         percentile,
         shrink: mode(subsampled),
     };
-    status(mtb_align::align::align_stack(
-        widths,
-        heights,
-        samples,
-        reference,
-        options,
-        shifts,
-        bytes,
-        words,
-    ))
+    status_with(
+        mtb_align::align::align_stack(
+            widths,
+            heights,
+            samples,
+            reference,
+            options,
+            shifts,
+            bytes,
+            words,
+        ),
+        values,
+    )
 }

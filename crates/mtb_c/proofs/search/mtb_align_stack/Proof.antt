@@ -1,7 +1,8 @@
 -- `mtb_c::search::mtb_align_stack` meets its contract. Assumes nothing.
 use mathlib.Core.Path.{ap, _∙_}
 use borrow.Author.Needs.{needs}
-use Rattle.mtb_c.specs.Status.{statusOf}
+use Rattle.definitions.specs.Refusals.{Answer}
+use Rattle.mtb_c.specs.Status.{statusOf, valuesAfter}
 use Rattle.mtb_c.proofs.search.mtb_align_stack.Statement.{statement}
 use Rattle.mtb_c.proofs.search.mtb_align_stack.Tie as tie
 
@@ -11,8 +12,8 @@ mode-requires c κs = search needs
 align-stack-requires : tie.Need-align-stack-requires
 align-stack-requires c κs = search needs
 
-status-requires : tie.Need-status-requires
-status-requires c κs = search needs
+status-with-requires : tie.Need-status-with-requires
+status-with-requires c κs = search needs
 
 same-length : tie.Need-same-length
 same-length c = search needs
@@ -25,9 +26,11 @@ same-length-3 c = search needs
 
 returns : tie.Need-returns
 returns c =
-    let r = c .before .before .before .before .before .before .align-stack .ensures in
-    let m = c .before .before .before .before .before .before .before .before .before .before .mode .ensures in
-    (c .status .ensures ∙ ap statusOf (r .0), (rw (← m) (r .1 .0), r .1 .1))
+    let r = c .before .before .before .before .before .before .before .align-stack .ensures in
+    let m = c .before .before .before .before .before .before .before .before .before .before .before .mode .ensures in
+    let v = c .before .before .before .before .before .before .before .before .before .before .before .before .before .before .before .before .before .args .values .now in
+    let told = c .status-with .ensures in
+    (told .0 ∙ ap statusOf (r .0), (rw (← m) (r .1 .0), (r .1 .1 .0, (r .1 .1 .1, told .1 ∙ ap (λ (a : Answer (Unit {0})). valuesAfter a v) (r .0)))))
 
 pub mtb-align-stack-spec : {M : Type 1} → statement M
 mtb-align-stack-spec =
@@ -35,7 +38,7 @@ mtb-align-stack-spec =
     (tie.spec
     mode-requires
     align-stack-requires
-    status-requires
+    status-with-requires
     same-length
     same-length-2
     same-length-3
