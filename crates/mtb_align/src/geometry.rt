@@ -165,15 +165,6 @@ pub(crate) fn copy_run(samples: &[u8], from: usize, out: &mut [u8], at: usize, n
     }
 }
 
-fn larger(a: usize, b: usize) -> usize
-    ensures { λ r. ⌜ r ≡ max a b ⌝ }
-{
-    if a < b {
-        return b;
-    }
-    a
-}
-
 fn smaller(a: usize, b: usize) -> usize
     ensures { λ r. ⌜ r ≡ min a b ⌝ }
 {
@@ -273,18 +264,40 @@ struct Covered {
     width: usize,
 }
 
+// The larger of two coordinates.
+fn upper(a: i32, b: i32) -> i32
+    ensures { λ r. ⌜ (ahead r ≡ max (ahead a) (ahead b)) × (behind r ≡ min (behind a) (behind b)) ⌝ }
+{
+    if a < b {
+        return b;
+    }
+    a
+}
+
+// The smaller of two coordinates.
+fn lower(a: i32, b: i32) -> i32
+    ensures { λ r. ⌜ (ahead r ≡ min (ahead a) (ahead b)) × (behind r ≡ max (behind a) (behind b)) ⌝ }
+{
+    if a < b {
+        return a;
+    }
+    b
+}
+
 // The coordinates of one axis stand at every second place of the list, from the first or the second on.
 fn span(shifts: &[i32], axis: usize, extent: usize) -> Covered
     requires { ⌜ axis ≤ 1 ⌝ }
     ensures { λ r. ⌜ (r .start ≡ cropStart (axisOf axis (now (shifts .entry)))) × (r .width ≡ cropWidth extent (axisOf axis (now (shifts .entry)))) ⌝ }
 {
-    let mut start = 0;
-    let mut lost = 0;
+    let mut most: i32 = 0;
+    let mut least: i32 = 0;
     for k in 0..shifts.len() / 2 {
         let coordinate = shifts[2 * k + axis];
-        start = larger(start, above(coordinate));
-        lost = larger(lost, below(coordinate));
+        most = upper(most, coordinate);
+        least = lower(least, coordinate);
     }
+    let start = above(most);
+    let lost = below(least);
     let left = without(extent, lost);
     let width = without(left, start);
     Covered { start, width }

@@ -1,4 +1,4 @@
--- `mtb_align::geometry::span` meets its contract. The two numbers are the largest of the first k coordinates. Assumes nothing.
+-- `mtb_align::geometry::span` meets its contract. The larger and the smaller coordinate lie as far above and below 0 as any of the first k. Assumes nothing.
 use mathlib.Core.Path.{_≡_, ap, _∙_}
 use mathlib.Core.List.{List}
 use Prim.Native.Nat.{ℕ, _+_, _-_, _*_, _/_, _≤_, max}
@@ -6,7 +6,7 @@ use native.Mathlib.Omega.{arith}
 use lib.IntN.{ℤ, pos}
 use lib.ListN.{length, getD}
 use mir.Syntax.{w32}
-use mir.Val.{SFits}
+use mir.Val.{SFits, toZ}
 use mir.Facts.{toZ-ofZ}
 use Rattle.definitions.specs.Build.{build}
 use Rattle.definitions.specs.Geometry.{ahead, behind, largest}
@@ -19,11 +19,11 @@ abbrev coordinateOf : ℕ → List ℤ → ℕ → ℤ
 coordinateOf axis l k = getD l (2 * k + axis) (pos 0)
 
 abbrev Inv-loop : tie.InvT-loop
-Inv-loop shifts axis extent start₀ lost₀ k₀ k-end start lost k =
-    (k ≤ length shifts / 2) × (start ≡ largest ahead (build k (coordinateOf axis shifts))) × (lost ≡ largest behind (build k (coordinateOf axis shifts)))
+Inv-loop shifts axis extent most₀ least₀ k₀ k-end most least k =
+    (k ≤ length shifts / 2) × (ahead (toZ w32 most) ≡ largest ahead (build k (coordinateOf axis shifts))) × (behind (toZ w32 least) ≡ largest behind (build k (coordinateOf axis shifts)))
 
 abbrev μ-loop : tie.MeasureT-loop
-μ-loop shifts axis extent start₀ lost₀ k₀ k-end start lost k = length shifts / 2 - k
+μ-loop shifts axis extent most₀ least₀ k₀ k-end most least k = length shifts / 2 - k
 
 loop-holds : tie.Need-loop-holds Inv-loop μ-loop
 loop-holds c = (omega arith, largest-none ahead _, largest-none behind _)
@@ -40,17 +40,11 @@ mul-coordinate-2 c = omega arith
 shared-slice-copy-out-coordinate : tie.Need-shared-slice-copy-out-coordinate Inv-loop μ-loop
 shared-slice-copy-out-coordinate c = omega arith
 
-above-requires : tie.Need-above-requires Inv-loop μ-loop
-above-requires c κs = tt
+upper-requires : tie.Need-upper-requires Inv-loop μ-loop
+upper-requires c κs = tt
 
-larger-requires : tie.Need-larger-requires Inv-loop μ-loop
-larger-requires c κs = tt
-
-below-requires : tie.Need-below-requires Inv-loop μ-loop
-below-requires c κs = tt
-
-larger-requires-2 : tie.Need-larger-requires-2 Inv-loop μ-loop
-larger-requires-2 c κs = tt
+lower-requires : tie.Need-lower-requires Inv-loop μ-loop
+lower-requires c κs = tt
 
 add-k : tie.Need-add-k Inv-loop μ-loop
 add-k c = omega arith
@@ -60,17 +54,27 @@ loop-less c = omega arith
 
 loop-again : tie.Need-loop-again Inv-loop μ-loop
 loop-again c =
-    let l = c .before .before .before .before .before .before .loop in
-    let a = c .before .before .before .before .before .before .before .args in
-    let f : SFits w32 (coordinateOf (a .axis) (a .shifts .now) (l .k)) = record { sfits = c .before .before .before .before .coordinate .given } in (
+    let l = c .before .before .before .before .loop in
+    let a = c .before .before .before .before .before .args in
+    let f : SFits w32 (coordinateOf (a .axis) (a .shifts .now) (l .k)) = record { sfits = c .before .before .coordinate .given } in
+    let u : SFits w32 (c .before .upper .result) = record { sfits = c .before .upper .ok } in
+    let v : SFits w32 (c .lower .result) = record { sfits = c .lower .ok } in (
       omega arith,
-      c .before .before .larger .ensures
-          ∙ ap (max (l .start)) (c .before .before .before .above .ensures ∙ ap ahead (toZ-ofZ f))
+      ap ahead (toZ-ofZ u)
+          ∙ c .before .upper .ensures .0
+          ∙ ap (max (ahead (toZ w32 (l .most)))) (ap ahead (toZ-ofZ f))
           ∙ largest-more ahead (coordinateOf (a .axis) (a .shifts .now)) (l .k) (l .inv .1),
-      c .larger2 .ensures
-          ∙ ap (max (l .lost)) (c .before .below .ensures ∙ ap behind (toZ-ofZ f))
+      ap behind (toZ-ofZ v)
+          ∙ c .lower .ensures .1
+          ∙ ap (max (behind (toZ w32 (l .least)))) (ap behind (toZ-ofZ f))
           ∙ largest-more behind (coordinateOf (a .axis) (a .shifts .now)) (l .k) (l .inv .2),
     )
+
+above-requires : tie.Need-above-requires Inv-loop μ-loop
+above-requires c κs = tt
+
+below-requires : tie.Need-below-requires Inv-loop μ-loop
+below-requires c κs = tt
 
 without-requires : tie.Need-without-requires Inv-loop μ-loop
 without-requires c κs = tt
@@ -81,12 +85,13 @@ without-requires-2 c κs = tt
 returns : tie.Need-returns Inv-loop μ-loop
 unfolding axisOf
 returns c =
-    let l = c .before .before .before .loop in
-    let a = c .before .before .before .before .args in
+    let l = c .before .before .before .before .before .loop in
+    let a = c .before .before .before .before .before .before .args in
     let e : l .k ≡ length (a .shifts .now) / 2 = omega arith in
     let whole : (f : ℤ → ℕ) → largest f (build (l .k) (coordinateOf (a .axis) (a .shifts .now))) ≡ largest f (axisOf (a .axis) (a .shifts .now)) =
     λ f. ap (λ (n : ℕ). largest f (build n (coordinateOf (a .axis) (a .shifts .now)))) e in
-    (l .inv .1 ∙ whole ahead, omega (arith, l .inv .1 ∙ whole ahead, l .inv .2 ∙ whole behind))
+    let start = c .before .before .before .above .ensures ∙ l .inv .1 ∙ whole ahead in
+    (start, omega (arith, start, c .before .before .below .ensures ∙ l .inv .2 ∙ whole behind))
 
 pub span-spec : {M : Type 1} → statement M
 span-spec =
@@ -99,13 +104,13 @@ span-spec =
     add-coordinate
     mul-coordinate-2
     shared-slice-copy-out-coordinate
-    above-requires
-    larger-requires
-    below-requires
-    larger-requires-2
+    upper-requires
+    lower-requires
     add-k
     loop-less
     loop-again
+    above-requires
+    below-requires
     without-requires
     without-requires-2
     returns)
