@@ -5,6 +5,7 @@ mod counts;
 mod frames;
 mod inputs;
 mod moves;
+mod opencv;
 mod original;
 mod race;
 mod report;
@@ -20,6 +21,8 @@ struct Timed {
     size: Size,
     kind: Kind,
     times: [f64; 2],
+    /// That of OpenCV, where it has the call and is at hand.
+    opencv: Option<f64>,
 }
 
 fn timed(call: &'static str, goal: f64, input: &Input, times: [f64; 2]) -> Timed {
@@ -29,6 +32,7 @@ fn timed(call: &'static str, goal: f64, input: &Input, times: [f64; 2]) -> Timed
         size: input.size,
         kind: input.kind,
         times,
+        opencv: None,
     }
 }
 
@@ -85,7 +89,7 @@ fn main() {
 take turns, of fewer where a report takes long.
 Both are built for release without overflow checks and called by C's convention, never
 inlined. The original allocates its answer in every call and frees it, the port writes
-to buffers made before.
+to buffers made before. {}
 The ratio is original to port; `<` marks one below the goal.
 Packing alone is compute_bitmaps less threshold on the port's side, and the whole of
 compute_bitmaps on the original's. Percentile 50, tolerance 4.
@@ -93,7 +97,8 @@ A report is of two frames, at bits 1, floor 1 and margin 0; there the original c
 once at each shift that the report surveys, in bitmaps packed before.
 Inputs: noise, any bytes; pins, even rows of bright pins, 6 of 16 columns and 24 of 40
 rows, in light that changes by row; flat, 128 throughout. RGB has each sample thrice.",
-        PASSES * race::ROUNDS
+        PASSES * race::ROUNDS,
+        opencv::SAID
     );
 
     let mut all = pass(is_timed);
@@ -102,6 +107,10 @@ rows, in light that changes by row; flat, 128 throughout. RGB has each sample th
             for (time, again) in timed.times.iter_mut().zip(again.times) {
                 *time = time.min(again);
             }
+            timed.opencv = timed
+                .opencv
+                .zip(again.opencv)
+                .map(|(one, other)| one.min(other));
         }
     }
     all.extend(frames::packing_alone(&all));
@@ -161,12 +170,16 @@ fn print_table(call: &str, of_call: &[&Timed]) {
     };
     print!("{:32}", format!("{call}, goal {goal}"));
     for timed in rows[0] {
-        print!("{:>33}", timed.kind.name());
+        let columns = if timed.opencv.is_some() { 45 } else { 33 };
+        print!("{:>columns$}", timed.kind.name());
     }
     println!();
     print!("{:32}", "");
-    for _ in rows[0] {
+    for timed in rows[0] {
         print!("{:>13}{:>12}{:>8}", "original", "port", "ratio");
+        if timed.opencv.is_some() {
+            print!("{:>12}", "OpenCV");
+        }
     }
     println!();
 
@@ -177,6 +190,9 @@ fn print_table(call: &str, of_call: &[&Timed]) {
             let [original, port] = timed.times.map(nanoseconds);
             let mark = if timed.is_below(timed.goal) { "<" } else { " " };
             print!("{original:>13}{port:>12}{:>7.2}{mark}", timed.ratio());
+            if let Some(opencv) = timed.opencv {
+                print!("{:>12}", nanoseconds(opencv));
+            }
         }
         println!();
     }

@@ -8,6 +8,20 @@ pub fn race<const SIDES: usize>(sides: [&mut dyn FnMut(); SIDES]) -> [f64; SIDES
     race_of(ROUNDS, sides)
 }
 
+/// A race of two, with a third where there is one.
+pub fn race_beside(
+    [one, other]: [&mut dyn FnMut(); 2],
+    third: Option<&mut dyn FnMut()>,
+) -> ([f64; 2], Option<f64>) {
+    match third {
+        None => (race([one, other]), None),
+        Some(third) => {
+            let [one, other, third] = race([one, other, third]);
+            ([one, other], Some(third))
+        }
+    }
+}
+
 /// Nanoseconds per run of each side, the least of all rounds and of the turn that finds
 /// how often a side runs. In a round every side has its turn, so that all meet the same
 /// weather.

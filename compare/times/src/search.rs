@@ -11,9 +11,8 @@ use port::search as port;
 
 use crate::frames::{accepted, gray};
 use crate::inputs::Input;
-use crate::original;
-use crate::race::race;
-use crate::{Timed, timed};
+use crate::race::race_beside;
+use crate::{Timed, opencv, original, timed};
 
 const OPTIONS: Options = Options {
     bits: 6,
@@ -42,6 +41,20 @@ fn scratch((width, height): (usize, usize)) -> (Vec<u8>, Vec<u64>) {
     (vec![0; need.bytes], vec![0; need.words])
 }
 
+/// A race of both sides, and of OpenCV where it is at hand.
+fn beside(
+    call: &'static str,
+    input: &Input,
+    sides: [&mut dyn FnMut(); 2],
+    opencv: &mut dyn FnMut(),
+) -> Timed {
+    let (times, opencv) = race_beside(sides, opencv::AT_HAND.then_some(opencv));
+    Timed {
+        opencv,
+        ..timed(call, GOAL, input, times)
+    }
+}
+
 pub fn shift(input: &Input) -> Vec<Timed> {
     let (width, height) = input.size;
     let frames = bracket(input, 2);
@@ -50,7 +63,8 @@ pub fn shift(input: &Input) -> Vec<Timed> {
     let (mut bytes, mut words) = scratch(input.size);
     let (mut x, mut y, mut comparisons) = (0, 0, 0);
     let [mut x_there, mut y_there] = [0; 2];
-    let times = race([
+    let mut opencv = || opencv::shift(black_box(&frames[0]), &frames[1], &OPTIONS);
+    let sides: [&mut dyn FnMut(); 2] = [
         &mut || {
             accepted(original::shift(
                 black_box(&frames[0]),
@@ -73,8 +87,8 @@ pub fn shift(input: &Input) -> Vec<Timed> {
                 &mut comparisons,
             ));
         },
-    ]);
-    vec![timed("shift", GOAL, input, times)]
+    ];
+    vec![beside("shift", input, sides, &mut opencv)]
 }
 
 pub fn align_stack(input: &Input) -> Vec<Timed> {
@@ -93,7 +107,8 @@ pub fn align_stack(input: &Input) -> Vec<Timed> {
             };
             let mut shifts = vec![0; 2 * count];
             let mut values = [0; 5];
-            let times = race([
+            let mut opencv = || opencv::steps(black_box(&frames), &OPTIONS);
+            let sides: [&mut dyn FnMut(); 2] = [
                 &mut || {
                     let frames = black_box(&frames);
                     accepted(original::align_stack(
@@ -117,8 +132,8 @@ pub fn align_stack(input: &Input) -> Vec<Timed> {
                         &mut values,
                     ));
                 },
-            ]);
-            timed(name, GOAL, input, times)
+            ];
+            beside(name, input, sides, &mut opencv)
         })
         .collect()
 }
