@@ -1,13 +1,19 @@
--- Three words added bit by bit into two, a word of sums and a word of carries: a carry counts twice. Assumes nothing.
-use mathlib.Core.Path.{_≡_, refl, ap, ap₂, _∙_}
+-- Words added up bit by bit: the carry-save adder of three, words that stand apart taken together, and their set bits counted once they are
+-- added up. Assumes nothing.
+use mathlib.Core.Path.{_≡_, refl, sym, ap, ap₂, _∙_}
+use mathlib.Core.List.{List}
 use Prim.Native.Nat.{ℕ, zero, suc, _+_, _*_, _<_, min, max}
+use native.Mathlib.Nat.{add-mul, zero-add}
 use native.Mathlib.Omega.{arith}
 use lib.Bits.{bitAnd, bitOr, bitXor, differ}
+use lib.ListN.{getD}
 use Rattle.definitions.specs.Sum.{sum}
 use Rattle.definitions.specs.Bitmap.{bitOf}
 use Rattle.laws.specs.Bits.{bit-lt, bit-and, bit-or, bit-xor}
+use Rattle.laws.specs.Grids.{sum-swap}
+use Rattle.laws.specs.Sums.{sum-ext, sum-split, sum-rows}
 
--- ---- one bit
+-- ---- the adder
 
 two-bits : (a b : ℕ) → a < 2 → b < 2 → (differ a b + 2 * min a b ≡ a + b) × (differ a b < 2)
 two-bits (suc (suc a)) b ha hb = absurd (omega arith)
@@ -24,26 +30,89 @@ three-bits a b c ha hb hc =
     let v = two-bits (differ a b) c (u .1) hc in
     omega (arith, u .0, v .0)
 
--- ---- a word
+pub carry-save-law : (a b c i : ℕ)
+    → 2 * bitOf (bitOr (bitAnd a b) (bitAnd (bitXor a b) c)) i + bitOf (bitXor (bitXor a b) c) i ≡ bitOf a i + bitOf b i + bitOf c i
+carry-save-law a b c i =
+    let carry = bit-or (bitAnd a b) (bitAnd (bitXor a b) c) i
+    ∙ ap₂ max (bit-and a b i) (bit-and (bitXor a b) c i ∙ ap (λ (k : ℕ). min k (bitOf c i)) (bit-xor a b i)) in
+    let odd = bit-xor (bitXor a b) c i ∙ ap (λ (k : ℕ). differ k (bitOf c i)) (bit-xor a b i) in
+    ap₂ (λ (x y : ℕ). 2 * x + y) carry odd ∙ three-bits (bitOf a i) (bitOf b i) (bitOf c i) (bit-lt a i) (bit-lt b i) (bit-lt c i)
 
-abbrev pub carries : ℕ → ℕ → ℕ → ℕ
-carries a b c = bitOr (bitAnd a b) (bitAnd (bitXor a b) c)
+-- ---- words apart
 
-abbrev pub sums : ℕ → ℕ → ℕ → ℕ
-sums a b c = bitXor (bitXor a b) c
+-- How many of n words, `step` apart from `at` on, have bit i set.
+abbrev pub bitsApart : ℕ → List ℕ → ℕ → ℕ → ℕ → ℕ
+bitsApart n words at step i = sum n (λ (j : ℕ). bitOf (getD words (j * step + at) 0) i)
 
-module _ (a b c : ℕ) where
-  each : (i : ℕ) → 2 * bitOf (carries a b c) i + bitOf (sums a b c) i ≡ bitOf a i + bitOf b i + bitOf c i
-  each i =
-      ap₂ (λ (x y : ℕ). 2 * x + y)
-      (bit-or (bitAnd a b) (bitAnd (bitXor a b) c) i ∙ ap₂ max (bit-and a b i) (bit-and (bitXor a b) c i ∙ ap (λ (k : ℕ). min k (bitOf c i)) (bit-xor a b i)))
-      (bit-xor (bitXor a b) c i ∙ ap (λ (k : ℕ). differ k (bitOf c i)) (bit-xor a b i))
-      ∙ three-bits (bitOf a i) (bitOf b i) (bitOf c i) (bit-lt a i) (bit-lt b i) (bit-lt c i)
+pub one-apart : (words : List ℕ) (at step i : ℕ) → bitsApart 1 words at step i ≡ bitOf (getD words at 0) i
+unfolding sum
+one-apart words at step i =
+    let e : 0 * step + at ≡ at = omega arith in
+    zero-add _ ∙ ap (λ (k : ℕ). bitOf (getD words k 0) i) e
 
-  adder : (n : ℕ) → 2 * sum n (bitOf (carries a b c)) + sum n (bitOf (sums a b c)) ≡ sum n (bitOf a) + sum n (bitOf b) + sum n (bitOf c)
+-- n more, past the first m
+pub more-apart : (m n : ℕ) (words : List ℕ) (at step i : ℕ) → bitsApart (m + n) words at step i ≡ bitsApart m words at step i + bitsApart n words (at + m * step) step i
+more-apart m n words at step i =
+    sum-split m n (λ (j : ℕ). bitOf (getD words (j * step + at) 0) i)
+    ∙ ap (λ (k : ℕ). bitsApart m words at step i + k)
+    (sum-ext n (λ (j : ℕ). bitOf (getD words ((m + j) * step + at) 0) i) (λ (j : ℕ). bitOf (getD words (j * step + (at + m * step)) 0) i)
+    (λ j l.
+    let e : (m + j) * step + at ≡ j * step + (at + m * step) = omega (arith, add-mul m j step) in
+    ap (λ (k : ℕ). bitOf (getD words k 0) i) e))
+
+next-apart : (n : ℕ) (words : List ℕ) (at step i : ℕ) → bitsApart (n + 1) words at step i ≡ bitsApart n words at step i + bitOf (getD words (at + n * step) 0) i
+next-apart n words at step i = more-apart n 1 words at step i ∙ ap (λ (k : ℕ). bitsApart n words at step i + k) (one-apart words (at + n * step) step i)
+
+-- seven, by what each word has
+pub seven-apart : (words : List ℕ) (at step i : ℕ)
+    → bitOf (getD words at 0) i
+    + bitOf (getD words (at + step) 0) i
+    + bitOf (getD words (at + 2 * step) 0) i
+    + bitOf (getD words (at + 3 * step) 0) i
+    + bitOf (getD words (at + 4 * step) 0) i
+    + bitOf (getD words (at + 5 * step) 0) i
+    + bitOf (getD words (at + 6 * step) 0) i
+    ≡ bitsApart 7 words at step i
+seven-apart words at step i =
+    let second : at + step ≡ at + 1 * step = omega arith in
+    let e = ap (λ (k : ℕ). bitOf (getD words k 0) i) second in
+    omega (
+      arith,
+      e,
+      one-apart words at step i,
+      next-apart 1 words at step i,
+      next-apart 2 words at step i,
+      next-apart 3 words at step i,
+      next-apart 4 words at step i,
+      next-apart 5 words at step i,
+      next-apart 6 words at step i,
+    )
+
+-- ---- set bits
+
+-- of seven words, by what they add up to
+module _ (p q r a b c d e f g : ℕ)
+    (h : (i : ℕ) → 4 * bitOf p i + 2 * bitOf q i + bitOf r i ≡ bitOf a i + bitOf b i + bitOf c i + bitOf d i + bitOf e i + bitOf f i + bitOf g i) where
+  pub seven-set : (n : ℕ)
+      → 4 * sum n (bitOf p) + 2 * sum n (bitOf q) + sum n (bitOf r)
+      ≡ sum n (bitOf a) + sum n (bitOf b) + sum n (bitOf c) + sum n (bitOf d) + sum n (bitOf e) + sum n (bitOf f) + sum n (bitOf g)
   unfolding sum
-  adder zero = refl
-  adder (suc n) = omega (arith, adder n, each n)
+  seven-set zero = refl
+  seven-set (suc n) = omega (arith, seven-set n, h n)
 
-pub adder-is : (a b c : ℕ) {h l : ℕ} → (h ≡ carries a b c) × (l ≡ sums a b c) → 2 * sum 64 (bitOf h) + sum 64 (bitOf l) ≡ sum 64 (bitOf a) + sum 64 (bitOf b) + sum 64 (bitOf c)
-adder-is a b c e = ap₂ (λ (x y : ℕ). 2 * sum 64 (bitOf x) + sum 64 (bitOf y)) (e .0) (e .1) ∙ adder a b c 64
+weighed : (n : ℕ) (a b c d : ℕ → ℕ) → sum n (λ (i : ℕ). 8 * a i + 4 * b i + 2 * c i + d i) ≡ 8 * sum n a + 4 * sum n b + 2 * sum n c + sum n d
+unfolding sum
+weighed zero a b c d = refl
+weighed (suc n) a b c d = omega (arith, weighed n a b c d)
+
+-- of fifteen words, by what they add up to
+pub fifteen-set : (words : List ℕ) (at step a b c d : ℕ) → ((i : ℕ) → 8 * bitOf a i + 4 * bitOf b i + 2 * bitOf c i + bitOf d i ≡ bitsApart 15 words at step i)
+    → 8 * sum 64 (bitOf a) + 4 * sum 64 (bitOf b) + 2 * sum 64 (bitOf c) + sum 64 (bitOf d) ≡ sum 15 (λ (j : ℕ). sum 64 (bitOf (getD words (j * step + at) 0)))
+fifteen-set words at step a b c d h =
+    sym (weighed 64 (bitOf a) (bitOf b) (bitOf c) (bitOf d))
+    ∙ sum-ext 64 (λ (i : ℕ). 8 * bitOf a i + 4 * bitOf b i + 2 * bitOf c i + bitOf d i) (bitsApart 15 words at step) (λ i _. h i)
+    ∙ sum-swap 64 15 (λ (j i : ℕ). bitOf (getD words (j * step + at) 0) i)
+
+-- fifteen parts, taken side by side, are all their words
+pub parts : (step : ℕ) (f : ℕ → ℕ) → sum step (λ (at : ℕ). sum 15 (λ (j : ℕ). f (j * step + at))) ≡ sum (15 * step) f
+parts step f = sum-swap step 15 (λ (j at : ℕ). f (j * step + at)) ∙ sym (sum-rows 15 step f)

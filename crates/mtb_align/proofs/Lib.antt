@@ -1,5 +1,4 @@
 -- Laws that the proofs of several functions cite.
-pub mod Adders
 pub mod Costs
 pub mod Counting
 pub mod Four

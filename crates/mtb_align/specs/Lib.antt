@@ -1,5 +1,4 @@
 -- The code's answers in document 01's terms, and what its inner functions compute.
-pub mod Adders
 pub mod Answers
 pub mod Levelled
 pub mod Packing

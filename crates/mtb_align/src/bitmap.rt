@@ -11,7 +11,7 @@ ghost use lib.ListN.{length, getD};
 ghost use Rattle.definitions.specs.Sum.{bit, sum};
 ghost use Rattle.definitions.specs.Bitmap.{wordsPerRow, bitmapWords, bitOf, wordOf, bitAt, withBit, total, paddingSet, rowOf};
 ghost use Rattle.definitions.specs.Refusals.{answer, after, pixelChecks, totalChecks, rowChecks};
-ghost use Rattle.mtb_align.specs.Adders.{bitsApart};
+ghost use Rattle.laws.specs.Adders.{bitsApart};
 ghost use Rattle.mtb_align.specs.Answers.{outcome, pixelAnswer, totalAnswer};
 
 pub enum PixelAnswer {
@@ -146,10 +146,10 @@ struct Twos {
     ones: u64,
 }
 
-struct Fours {
-    fours: u64,
-    twos: u64,
-    ones: u64,
+pub(crate) struct Fours {
+    pub(crate) fours: u64,
+    pub(crate) twos: u64,
+    pub(crate) ones: u64,
 }
 
 // The carry-save adder of three words.
@@ -163,23 +163,15 @@ fn carry_save(a: u64, b: u64, c: u64) -> Twos
     }
 }
 
-// Three words, `step` apart.
-fn add_three(words: &[u64], at: usize, step: usize) -> Twos
-    requires { ⌜ (at + 2 * step < length (now words)) × (length (now words) ≤ 1048576) ⌝ }
-    ensures { λ r. ⌜ ((i : ℕ) → 2 * bitOf (r .twos) i + bitOf (r .ones) i ≡ bitsApart 3 (now (words .entry)) at step i) ⌝ }
+pub(crate) fn add_seven(a: u64, b: u64, c: u64, d: u64, e: u64, f: u64, g: u64) -> Fours
+    ensures { λ r. ⌜
+        ((i : ℕ) → 4 * bitOf (r .fours) i + 2 * bitOf (r .twos) i + bitOf (r .ones) i ≡ bitOf a i + bitOf b i + bitOf c i + bitOf d i + bitOf e i + bitOf f i + bitOf g i)
+        ⌝ }
 {
-    carry_save(words[at], words[at + step], words[at + 2 * step])
-}
-
-// Seven words, `step` apart.
-fn add_seven(words: &[u64], at: usize, step: usize) -> Fours
-    requires { ⌜ (at + 6 * step < length (now words)) × (length (now words) ≤ 1048576) ⌝ }
-    ensures { λ r. ⌜ ((i : ℕ) → 4 * bitOf (r .fours) i + 2 * bitOf (r .twos) i + bitOf (r .ones) i ≡ bitsApart 7 (now (words .entry)) at step i) ⌝ }
-{
-    let a = add_three(words, at, step);
-    let b = add_three(words, at + 3 * step, step);
-    let ones = carry_save(a.ones, b.ones, words[at + 6 * step]);
-    let twos = carry_save(a.twos, b.twos, ones.twos);
+    let x = carry_save(a, b, c);
+    let y = carry_save(d, e, f);
+    let ones = carry_save(x.ones, y.ones, g);
+    let twos = carry_save(x.twos, y.twos, ones.twos);
     Fours {
         fours: twos.twos,
         twos: twos.ones,
@@ -187,13 +179,29 @@ fn add_seven(words: &[u64], at: usize, step: usize) -> Fours
     }
 }
 
+// Seven words, `step` apart.
+fn add_apart(words: &[u64], at: usize, step: usize) -> Fours
+    requires { ⌜ (at + 6 * step < length (now words)) × (length (now words) ≤ 1048576) ⌝ }
+    ensures { λ r. ⌜ ((i : ℕ) → 4 * bitOf (r .fours) i + 2 * bitOf (r .twos) i + bitOf (r .ones) i ≡ bitsApart 7 (now (words .entry)) at step i) ⌝ }
+{
+    add_seven(
+        words[at],
+        words[at + step],
+        words[at + 2 * step],
+        words[at + 3 * step],
+        words[at + 4 * step],
+        words[at + 5 * step],
+        words[at + 6 * step],
+    )
+}
+
 // How many bits are set in fifteen words, `step` apart. Once they are added up, four counts serve for all (Harley and Seal).
 fn ones_of_fifteen(words: &[u64], at: usize, step: usize) -> u64
     requires { ⌜ (at + 14 * step < length (now words)) × (length (now words) ≤ 1048576) ⌝ }
     ensures { λ r. ⌜ (r ≡ sum 15 (λ (j : ℕ). sum 64 (bitOf (getD (now (words .entry)) (j * step + at) 0)))) × (r ≤ 960) ⌝ }
 {
-    let a = add_seven(words, at, step);
-    let b = add_seven(words, at + 7 * step, step);
+    let a = add_apart(words, at, step);
+    let b = add_apart(words, at + 7 * step, step);
     let ones = carry_save(a.ones, b.ones, words[at + 14 * step]);
     let twos = carry_save(a.twos, b.twos, ones.twos);
     let fours = carry_save(a.fours, b.fours, twos.twos);

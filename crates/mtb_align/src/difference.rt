@@ -1,5 +1,6 @@
 // Both counts of two packed pairs at a shift, a word at a time. rt and re are the reference's threshold and exclusion bitmap, st
 // and se the target's, which is the source of what is shown on the reference.
+use super::bitmap::add_seven;
 use super::bitmap::ones_of;
 use super::bitmap::words_per_row;
 use super::error::Error;
@@ -17,7 +18,6 @@ ghost use Rattle.definitions.specs.Sum.{sum};
 ghost use Rattle.definitions.specs.Bitmap.{bitmapWords, bitOf};
 ghost use Rattle.definitions.specs.Difference.{bitmapsIn, counts};
 ghost use Rattle.definitions.specs.Refusals.{answer, countingChecks};
-ghost use Rattle.laws.specs.Adders.{carries, sums};
 ghost use Rattle.laws.specs.Bitmaps.{IsBitmap};
 ghost use Rattle.laws.specs.ChecksDifference.{Long, paddingOf};
 ghost use Rattle.laws.specs.Joints.{Alike, Reaches, LinesReach, Counted, Showing, spanned, edged, runSum, linesSum};
@@ -226,33 +226,14 @@ fn edge_run(
     }
 }
 
-// Three words added bit by bit: a carry counts twice.
-struct Carried {
-    carries: u64,
-    sums: u64,
-}
-
-fn added(a: u64, b: u64, c: u64) -> Carried
-    ensures { λ r. ⌜ (r .carries ≡ carries a b c) × (r .sums ≡ sums a b c) ⌝ }
-{
-    let two = a ^ b;
-    Carried {
-        carries: (a & b) | (two & c),
-        sums: two ^ c,
-    }
-}
-
 // How many bits are set in seven words. Counting ones is dear, so the words are added first and ones are counted in three.
 fn ones_of_seven(a: u64, b: u64, c: u64, d: u64, e: u64, f: u64, g: u64) -> u64
     ensures { λ r. ⌜
         r ≡ sum 64 (bitOf a) + sum 64 (bitOf b) + sum 64 (bitOf c) + sum 64 (bitOf d) + sum 64 (bitOf e) + sum 64 (bitOf f) + sum 64 (bitOf g)
         ⌝ }
 {
-    let x = added(a, b, c);
-    let y = added(x.sums, d, e);
-    let z = added(y.sums, f, g);
-    let twos = added(x.carries, y.carries, z.carries);
-    ones_of(z.sums) + 2 * ones_of(twos.sums) + 4 * ones_of(twos.carries)
+    let sums = add_seven(a, b, c, d, e, f, g);
+    ones_of(sums.ones) + 2 * ones_of(sums.twos) + 4 * ones_of(sums.fours)
 }
 
 // Both counts of seven words, `apart` from one to the next.

@@ -1,5 +1,5 @@
 -- `mtb_align::bitmap::carry_save` meets its contract. Assumes nothing.
-use Rattle.mtb_align.proofs.Adders.{carry-save-law}
+use Rattle.laws.specs.Adders.{carry-save-law}
 use Rattle.mtb_align.proofs.bitmap.carry_save.Statement.{statement}
 use Rattle.mtb_align.proofs.bitmap.carry_save.Tie as tie
 

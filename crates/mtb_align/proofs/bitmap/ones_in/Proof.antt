@@ -8,7 +8,7 @@ use lib.ListN.{length, getD}
 use Rattle.definitions.specs.Bitmap.{bitOf}
 use Rattle.definitions.specs.Sum.{sum}
 use Rattle.laws.specs.Sums.{sum-none, sum-step}
-use Rattle.mtb_align.proofs.Adders.{parts}
+use Rattle.laws.specs.Adders.{parts}
 use Rattle.mtb_align.proofs.bitmap.ones_in.Statement.{statement}
 use Rattle.mtb_align.proofs.bitmap.ones_in.Tie as tie
 

@@ -3,22 +3,21 @@ use mathlib.Core.Path.{_≡_}
 use Prim.Native.Nat.{ℕ, _+_, _*_}
 use native.Mathlib.Omega.{arith}
 use Rattle.definitions.specs.Bitmap.{bitOf}
-use Rattle.mtb_align.specs.Adders.{bitsApart}
-use Rattle.mtb_align.proofs.Adders.{one-apart, more-apart, fifteen-set}
+use Rattle.laws.specs.Adders.{bitsApart, one-apart, more-apart, fifteen-set}
 use Rattle.mtb_align.proofs.bitmap.ones_of_fifteen.Statement.{statement}
 use Rattle.mtb_align.proofs.bitmap.ones_of_fifteen.Tie as tie
 
-add-seven-requires : tie.Need-add-seven-requires
-add-seven-requires c κs = (omega arith, omega arith)
+add-apart-requires : tie.Need-add-apart-requires
+add-apart-requires c κs = (omega arith, omega arith)
 
-mul-add-seven : tie.Need-mul-add-seven
-mul-add-seven c = omega arith
+mul-add-apart : tie.Need-mul-add-apart
+mul-add-apart c = omega arith
 
-add-add-seven : tie.Need-add-add-seven
-add-add-seven c = omega arith
+add-add-apart : tie.Need-add-add-apart
+add-add-apart c = omega arith
 
-add-seven-requires-2 : tie.Need-add-seven-requires-2
-add-seven-requires-2 c κs = (omega arith, omega arith)
+add-apart-requires-2 : tie.Need-add-apart-requires-2
+add-apart-requires-2 c κs = (omega arith, omega arith)
 
 mul-carry-save : tie.Need-mul-carry-save
 mul-carry-save c = omega arith
@@ -87,8 +86,8 @@ added c i =
       s .carry-save3 .ensures i,
       s .before .carry-save2 .ensures i,
       s .before .before .carry-save .ensures i,
-      s .before .before .before .before .add-seven2 .ensures i,
-      s .before .before .before .before .before .add-seven .ensures i,
+      s .before .before .before .before .add-apart2 .ensures i,
+      s .before .before .before .before .before .add-apart .ensures i,
       more-apart 7 7 words (x .at) (x .step) i,
       more-apart 14 1 words (x .at) (x .step) i,
       one-apart words (x .at + 14 * x .step) (x .step) i,
@@ -106,10 +105,10 @@ pub ones-of-fifteen-spec : {M : Type 1} → statement M
 ones-of-fifteen-spec =
     tie.close
     (tie.spec
-    add-seven-requires
-    mul-add-seven
-    add-add-seven
-    add-seven-requires-2
+    add-apart-requires
+    mul-add-apart
+    add-add-apart
+    add-apart-requires-2
     mul-carry-save
     add-carry-save
     mul-carry-save-2

@@ -3,15 +3,28 @@
 use mathlib.Core.Path.{_≡_, sym, ap, _∙_}
 use Prim.Native.Nat.{ℕ, _+_, _-_, _*_, _/_, _%_, _^_, _≤_, _<_}
 use native.Mathlib.Omega.{arith}
+use lib.Bits.{bitOr, or-shr, or-add-and, and-le-l, and-le-r}
 use lib.ListN.{getD}
 use Rattle.definitions.specs.Bitmap.{bitOf, wordAt, paddingSet}
 use Rattle.definitions.specs.Sum.{sum}
 use Rattle.laws.specs.Bitmaps.{last-inside, paddingIn, padding-none, padding-row}
-use Rattle.laws.specs.Sums.{sum-none, sum-more}
-use Rattle.mtb_align.proofs.Adders.{none-set, over-none}
+use Rattle.laws.specs.Bits.{bit-past}
+use Rattle.laws.specs.Sums.{sum-none, sum-more, sum-zero}
 use Rattle.mtb_align.proofs.Pixels.{inside}
 use Rattle.mtb_align.proofs.bitmap.padding.Statement.{statement}
 use Rattle.mtb_align.proofs.bitmap.padding.Tie as tie
+
+-- a word of nothing has no set bit
+none-set : (v : ℕ) → v ≡ 0 → sum 64 (bitOf v) ≡ 0
+none-set v e = sum-zero 64 (bitOf v) (λ i _. bit-past 0 v i (omega arith) (omega arith))
+
+or-none : (a b : ℕ) → bitOr a b ≡ 0 → (a ≡ 0) × (b ≡ 0)
+or-none a b e =
+    (omega (arith, or-add-and a b, and-le-l a b, and-le-r a b), omega (arith, or-add-and a b, and-le-l a b, and-le-r a b))
+
+-- what is left of them once k bits are shifted out is left of neither
+over-none : (a b k : ℕ) → bitOr a b / 2 ^ k ≡ 0 → (a / 2 ^ k ≡ 0) × (b / 2 ^ k ≡ 0)
+over-none a b k e = or-none (a / 2 ^ k) (b / 2 ^ k) (sym (or-shr a b k) ∙ e)
 
 abbrev Inv-loop : tie.InvT-loop
 Inv-loop words width height spare n any₀ y₀ any y = (y ≤ height) × (any / 2 ^ spare ≡ 0 → sum y (paddingIn words width) ≡ 0)
