@@ -13,7 +13,7 @@ use lib.ListN.{length, getD, take, drop, length-append, length-map, length-drop}
 use lib.Seq.{sets, length-sets, getD-take, getD-drop, length-take-le, take-at}
 use Rattle.definitions.specs.Build.{build, joined, image, keepIf}
 use Rattle.definitions.specs.Geometry.{Shift, Source, inside, outside, source, atSource, atSources, origin, offset, listed, ahead, behind}
-use Rattle.definitions.specs.Bitmap.{wordAt, bitAt}
+use Rattle.definitions.specs.Bitmap.{wordAt, bitAt, total}
 use Rattle.definitions.specs.Difference.{Counts, bitmapsIn, comparedBit, disagreeingBit, overlap, counts}
 use Rattle.definitions.specs.Align.{Stack, neighbour, stepOf, shiftOf}
 use Rattle.definitions.specs.Report.{Terms, frameCounts, limitOf, rivals, window, isRival, survey, Record, bytes32, twosComplement, recordBytes, recordsBytes}
@@ -57,6 +57,23 @@ counts-few w h a b c d s =
     let t = bitmapsIn w c d in
     let few : (x y u v : ℕ) → comparedBit r t x y u v ≤ 1 = λ x y u v. omega (arith, bit-few b w x y) in
     (overlap-few w h s (disagreeingBit r t) (λ x y u v. omega (arith, few x y u v)), overlap-few w h s (comparedBit r t) few)
+
+-- ---- nor are more pixels compared than the reference's exclusion bitmap has
+
+sum-below : (n : ℕ) (f g : ℕ → ℕ) → ((i : ℕ) → f i ≤ g i) → sum n f ≤ sum n g
+unfolding sum
+sum-below zero f g h = omega arith
+sum-below (suc n) f g h = omega (arith, sum-below n f g h, h n)
+
+at-source-most : (a : Source) (f : ℕ → ℕ) (b : ℕ) → ((u : ℕ) → f u ≤ b) → atSource a f ≤ b
+at-source-most (inside u) f b most = most u
+at-source-most outside f b most = omega arith
+
+pub compared-most : (w h : ℕ) (a b c d : List ℕ) (s : Shift) → counts w h (bitmapsIn w a b) (bitmapsIn w c d) s .compared ≤ total b w h
+unfolding counts overlap atSources bitmapsIn comparedBit total
+compared-most w h a b c d s =
+    sum-below h _ _ (λ y. sum-below w _ _ (λ x.
+    at-source-most (source x (s .x) w) _ (bitAt b w x y) (λ u. at-source-most (source y (s .y) h) _ (bitAt b w x y) (λ v. omega arith))))
 
 -- ---- what passes a test
 
@@ -111,6 +128,12 @@ module _ {A : Type 0} (test : A → Bool) where
   keep-less m n f h =
       let z : m + (n - m) ≡ n = omega arith in
       omega (arith, keep-further m (n - m) f, ap (λ (k : ℕ). length (keepIf test (build k f))) z)
+
+  -- nothing where nothing passes
+  pub keep-nothing : ((a : A) → test a ≡ false) → (l : List A) → keepIf test l ≡ []
+  unfolding keepIf
+  keep-nothing h [] = refl
+  keep-nothing h (a ∷ l) = ap (λ (t : Bool). cond t (a ∷ keepIf test l) (keepIf test l)) (h a) ∙ keep-nothing h l
 
   -- no more than there are
   pub keep-few : (n : ℕ) (f : ℕ → A) → length (keepIf test (build n f)) ≤ n
@@ -172,6 +195,20 @@ over-limit at floor limit s h = ap (λ (t : Bool). leb floor (at s .compared) &&
     and-false : (t : Bool) → (t && false) ≡ false
     and-false true = refl
     and-false false = refl
+
+-- where no shift compares as many as the floor there is none
+module _ (at : Shift → Counts) (floor limit : ℕ) (few : (s : Shift) → at s .compared < floor) where
+  under-floor : (s : Shift) → isRival at floor limit s ≡ false
+  unfolding isRival
+  under-floor s = ap (λ (t : Bool). t && leb (at s .disagreeing) limit) (lt-leb floor (at s .compared) (few s))
+
+  pub row-nothing : (c : Shift) (reach j : ℕ) → rowRivals at c reach floor limit j ≡ []
+  unfolding rowRivals
+  row-nothing c reach j = keep-nothing (isRival at floor limit) under-floor (windowRow c reach j)
+
+  pub survey-nothing : (c : Shift) (reach : ℕ) → survey at c reach floor limit ≡ []
+  unfolding survey
+  survey-nothing c reach = keep-nothing (isRival at floor limit) under-floor (window c reach)
 
 -- the test by the counts at the shift
 pub rival-by-counts : (at : Shift → Counts) (floor limit : ℕ) {c : Counts} (s : Shift) → c ≡ at s → isRival (λ (x : Shift). c) floor limit origin ≡ isRival at floor limit s

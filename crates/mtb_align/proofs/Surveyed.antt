@@ -1,12 +1,12 @@
 -- What the report's functions know of two packed pairs and of a frame of a stack. Assumes nothing.
 use mathlib.Core.Path.{_≡_, refl, sym, ap, ap₂, _∙_, subst, fun-ext}
-use mathlib.Core.Bool.{Bool, cond}
+use mathlib.Core.Bool.{Bool, true, cond}
 use mathlib.Core.List.{List}
 use mathlib.Core.Logic.{⊎-elim}
 use Prim.Native.Nat.{ℕ, suc, _+_, _-_, _*_, _/_, _<_, _≤_}
 use native.Mathlib.Nat.{mul-comm, mul-le-mul-right, eq-or-lt-of-le}
 use native.Mathlib.Omega.{arith}
-use borrow.Author.Tests.{eq-eqb, ne-eqb}
+use borrow.Author.Tests.{eq-eqb, ne-eqb, ltb-true}
 use lib.Dec.{ltb, eqb}
 use lib.IntN.{ℤ, pos}
 use lib.ListN.{length, getD, take, replicate}
@@ -15,7 +15,7 @@ use Rattle.definitions.specs.Build.{build}
 use Rattle.definitions.specs.Geometry as geometry
 use Rattle.definitions.specs.Threshold.{cut}
 use Rattle.definitions.specs.Shrink.{sideAt, levelOf}
-use Rattle.definitions.specs.Bitmap.{bitmapWords}
+use Rattle.definitions.specs.Bitmap.{bitmapWords, total}
 use Rattle.definitions.specs.Difference as difference
 use Rattle.definitions.specs.Align.{neighbour, exposure, bitmapsAt, countsAt, stepOf, shiftOf, shifts, stepWords, stackNeed}
 use Rattle.definitions.specs.Refusals.{FreeUpTo}
@@ -28,7 +28,7 @@ use Rattle.laws.specs.Records.{rivals-none, rivals-survey}
 use Rattle.laws.specs.Sizes.{area}
 use Rattle.laws.specs.StackWalks.{free-wider, need-two}
 use Rattle.laws.specs.Steps.{Within, within-wider, Small, shift-small, step-small}
-use Rattle.laws.specs.Surveys.{stored-front, counts-few, rowRivals, less, neighbour-among, step-less, listed-x, listed-y}
+use Rattle.laws.specs.Surveys.{stored-front, counts-few, compared-most, rowRivals, less, neighbour-among, step-less, listed-x, listed-y}
 use Rattle.mtb_align.specs.declared.align.Options.{Options}
 use Rattle.mtb_align.specs.declared.difference.Counts.{Counts}
 use Rattle.mtb_align.specs.declared.geometry.Shift.{Shift}
@@ -57,6 +57,12 @@ sample-part {words} {w} {h} q s =
     (λ (l : geometry.ahead (s .y) + geometry.behind (s .y) < h). band-part w (mapAt words w h 0) (mapAt words w h 1) (mapAt words w h 2) (mapAt words w h 3) s rows h (omega arith))
     (λ (l : h ≤ geometry.ahead (s .y) + geometry.behind (s .y)). omega (arith, band-none w (mapAt words w h 0) (mapAt words w h 1) (mapAt words w h 2) (mapAt words w h 3) s rows (omega arith)))
     (lt-or-le (geometry.ahead (s .y) + geometry.behind (s .y)) h)
+
+-- where the reference's exclusion bitmap has too few pixels, no shift compares as many as the floor asks for
+pub none-reach : {words : List ℕ} {w h : ℕ} → TwoPairs words w h → (floor : ℕ) → ltb (total (mapAt words w h 1) w h) floor ≡ true → (s : geometry.Shift) → pairCounts words w h s .compared < floor
+unfolding pairCounts
+none-reach {words} {w} {h} q floor e s =
+    omega (arith, ltb-true (total (mapAt words w h 1) w h) floor e, compared-most w h (mapAt words w h 0) (mapAt words w h 1) (mapAt words w h 2) (mapAt words w h 3) s)
 
 -- two frames are more than one
 two-frames : {n r k : ℕ} → (k ≡ r → ⊥) → r < n → k < n → 1 < n

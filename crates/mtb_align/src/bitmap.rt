@@ -209,7 +209,7 @@ fn ones_of_fifteen(words: &[u64], at: usize, step: usize) -> u64
 }
 
 // How many bits are set in all words: in fifteen parts of equal length at once, which LLVM makes vectors of, then in the few left.
-fn ones_in(words: &[u64]) -> u64
+pub(crate) fn ones_in(words: &[u64]) -> u64
     requires { ⌜ length (now words) ≤ 1048576 ⌝ }
     ensures { λ r. ⌜ r ≡ sum (length (now (words .entry))) (λ (k : ℕ). sum 64 (bitOf (getD (now (words .entry)) k 0))) ⌝ }
 {

@@ -5,6 +5,7 @@ use super::align::frames_fit;
 use super::align::pack_both;
 use super::align::scratch_fits;
 use super::align::walk;
+use super::bitmap::ones_in;
 use super::bitmap::words_per_row;
 use super::difference::Counts;
 use super::difference::count;
@@ -33,6 +34,7 @@ ghost use Rattle.definitions.specs.Align as stacks;
 ghost use Rattle.definitions.specs.Refusals.{answer, after, FreeUpTo, Scratch, surveyChecks, reportChecks};
 ghost use Rattle.definitions.specs.Report.{isRival, survey, frameCounts, rivals, bytes32, twosComplement, recordBytes, recordsBytes, recordsNeeded, frameRecords, verdict, reportCrop};
 ghost use Rattle.definitions.specs.Report as reports;
+ghost use Rattle.definitions.specs.Bitmap.{total};
 ghost use Rattle.definitions.specs.Difference.{bitmapsIn, counts};
 ghost use Rattle.laws.specs.Bands.{band};
 ghost use Rattle.laws.specs.Steps.{Within};
@@ -192,6 +194,16 @@ fn row_rivals(
     number
 }
 
+// Whether the reference's exclusion bitmap has fewer pixels than the floor asks for, so that no shift compares as many.
+fn too_few(words: &[u64], width: usize, height: usize, floor: u64) -> bool
+    requires { ⌜ TwoPairs (now words) width height ⌝ }
+    ensures { λ r. ⌜ r ≡ ltb (total (mapAt (now (words .entry)) width height 1) width height) floor ⌝ }
+{
+    let n = height * words_per_row(width);
+    let end = 2 * n;
+    ones_in(&words[n..end]) < floor
+}
+
 // How many rivals there are around a centre; each row's number goes into `found`, from `at` on.
 fn survey(
     words: &[u64],
@@ -209,6 +221,10 @@ fn survey(
     ensures { λ _. ⌜ now (found .exit) ≡ sets (now (found .entry)) at (build (suc (2 * reach)) (λ j. length (rowRivals (pairCounts (now (words .entry)) width height) (shiftIn centre) reach floor limit j))) ⌝ }
 {
     let rows = 2 * reach + 1;
+    if too_few(words, width, height, floor) {
+        clear_run(found, at, rows);
+        return 0;
+    }
     let mut number: usize = 0;
     let mut j: usize = 0;
     while j < rows {
