@@ -22,7 +22,14 @@ const OPTIONS: Options = Options {
     percentile: PERCENTILE,
     shrink: Shrink::Average,
 };
-const REACHES: [(&str, u32); 2] = [("report at reach 16", 16), ("report at reach 64", 64)];
+/// How far each survey reaches and how the second frame is moved. The nine shifts of one
+/// level have (1, -1), after which few shifts are rivals. They miss (3, -2): then the
+/// step disagrees in much, and most rows of the window have a rival.
+const SURVEYS: [(&str, u32, Shift); 3] = [
+    ("report at reach 16", 16, Shift { x: 1, y: -1 }),
+    ("report at reach 64", 64, Shift { x: 1, y: -1 }),
+    ("report at 16, step missed", 16, Shift { x: 3, y: -2 }),
+];
 const SIZES: [Size; 3] = [(64, 64), (640, 480), (1920, 1080)];
 const GOAL: f64 = 2.5;
 
@@ -40,27 +47,26 @@ pub fn report(input: &Input) -> Vec<Timed> {
         return vec![];
     }
     let (width, height) = input.size;
-    // The nine shifts of one level have this one.
-    let frames = [gray(input), gray(input).shifted(Shift::new(1, -1))];
-    let bitmaps = [0, 1].map(|frame: usize| {
-        compute_bitmaps(&frames[frame], Percentile::new(PERCENTILE), TOLERANCE)
-    });
-    let samples = [frames[0].as_slice(), frames[1].as_slice()].concat();
-    let stack = Stack {
-        samples: &samples,
-        widths: &[width; 2],
-        heights: &[height; 2],
-        reference: 0,
-    };
     let need = Scratch::of_step(width, height, OPTIONS.bits);
     let (mut bytes, mut words) = (vec![0; need.bytes], vec![0; need.words]);
     let (mut shifts, mut verdicts) = ([0; 4], [0; 2]);
     let ([mut left, mut top, mut wide, mut high], mut count) = ([0; 4], 0);
     let mut values = [0; 5];
 
-    REACHES
+    SURVEYS
         .into_iter()
-        .map(|(name, reach)| {
+        .map(|(name, reach, moved)| {
+            let frames = [gray(input), gray(input).shifted(moved)];
+            let bitmaps = frames
+                .each_ref()
+                .map(|frame| compute_bitmaps(frame, Percentile::new(PERCENTILE), TOLERANCE));
+            let samples = [frames[0].as_slice(), frames[1].as_slice()].concat();
+            let stack = Stack {
+                samples: &samples,
+                widths: &[width; 2],
+                heights: &[height; 2],
+                reference: 0,
+            };
             let side = 2 * reach as usize + 1;
             let mut records = vec![0; RECORD_BYTES * side * side];
             let rivalry = Rivalry {
