@@ -228,6 +228,7 @@ pub fn pyramid(random: &mut Random) -> Vec<String> {
     }
     let breaks = [Image::size_breaks(), SCRATCH_BREAKS.to_vec()].concat();
     let broken = refused(&image(random, SOUND, 6, 0), &breaks);
+    cases.push(image(random, (31, 18), 40, 1)); // more bits than are of use
     [accepted(cases), broken].concat()
 }
 
@@ -308,16 +309,18 @@ pub fn level(random: &mut Random) -> Vec<String> {
     }
     // A scratch is taken as it is, whatever it holds, and a level far past the last
     // is empty.
-    let asking = |random: &mut Random, level| {
-        let scratch = random.bytes(halved_samples(SOUND.0, SOUND.1, 6));
+    let asking = |random: &mut Random, bits, level| {
+        let scratch = random.bytes(halved_samples(SOUND.0, SOUND.1, bits));
         let asking = Asking {
-            bits: 6,
+            bits,
             scratch,
             level,
         };
         Image::new(frame(random, SOUND), SOUND, asking, &[])
     };
-    cases.extend([1, 1 << 32].map(|level| asking(random, level)));
+    cases.extend([1, 1 << 32].map(|level| asking(random, 6, level)));
     let breaks = [Image::size_breaks(), LEVEL_BREAKS.to_vec()].concat();
-    [accepted(cases), emptied(&asking(random, 0), &breaks)].concat()
+    let sound = asking(random, 6, 0);
+    cases.extend([1, 2].map(|level| asking(random, 40, level)));
+    [accepted(cases), emptied(&sound, &breaks)].concat()
 }

@@ -46,7 +46,7 @@ const CALLS: Calls = [
 ];
 
 /// The programs that replay vectors, each with its calls in the order of their numbers.
-const REPLAYED: [(&str, &[&str]); 3] = [
+const REPLAYED: [(&str, &[&str]); 4] = [
     (
         "try_frames",
         &[
@@ -71,11 +71,17 @@ const REPLAYED: [(&str, &[&str]); 3] = [
         ],
     ),
     ("try_align", &["pyramid", "level", "shift", "align_stack"]),
+    ("try_report", &["report"]),
 ];
+
+type Files = BTreeMap<PathBuf, Vec<u8>>;
+
+/// The most that a program that replays vectors reads.
+const MOST_INPUT: usize = 512 * 1024;
 
 /// What the programs read and print, by path below the crates: every line of a call
 /// after the call's number, and how many lines agree.
-fn replayed(files: &BTreeMap<PathBuf, Vec<u8>>) -> BTreeMap<PathBuf, Vec<u8>> {
+fn replayed(files: &Files) -> Files {
     let mut inputs = BTreeMap::new();
     for (program, calls) in REPLAYED {
         let (mut input, mut cases) = (String::new(), 0);
@@ -86,15 +92,49 @@ fn replayed(files: &BTreeMap<PathBuf, Vec<u8>>) -> BTreeMap<PathBuf, Vec<u8>> {
                 cases += 1;
             }
         }
-        let output = format!("{cases} cases agree\n");
-        inputs.insert(Path::new(program).join("stdin"), input.into_bytes());
-        inputs.insert(Path::new(program).join("stdout"), output.into_bytes());
+        insert(&mut inputs, program, input.into_bytes(), agree(cases));
     }
     inputs
 }
 
+fn agree(cases: usize) -> Vec<u8> {
+    format!("{cases} cases agree\n").into_bytes()
+}
+
+fn insert(inputs: &mut Files, program: &str, input: Vec<u8>, output: Vec<u8>) {
+    assert!(input.len() < MOST_INPUT, "{program} reads too much");
+    inputs.insert(Path::new(program).join("stdin"), input);
+    inputs.insert(Path::new(program).join("stdout"), output);
+}
+
+/// The same for `stacksteps`, which has the printed example, and for the program that
+/// runs all of its pairs: for each a line with the lengths of input and output, then
+/// both.
+fn stacksteps_inputs(files: &Files) -> Files {
+    let pairs: Vec<(&[u8], &[u8])> = files
+        .iter()
+        .filter(|(file, _)| file.extension().is_some_and(|end| end == "stdin"))
+        .map(|(file, input)| (&input[..], &files[&file.with_extension("stdout")][..]))
+        .collect();
+    let mut all = Vec::new();
+    for (input, output) in &pairs {
+        all.extend(format!("{} {}\n", input.len(), output.len()).into_bytes());
+        all.extend([*input, *output].concat());
+    }
+    let example = |end| files[&Path::new("stacksteps/example").with_extension(end)].clone();
+    let mut inputs = BTreeMap::new();
+    insert(&mut inputs, "try_stacksteps", all, agree(pairs.len()));
+    insert(
+        &mut inputs,
+        "stacksteps",
+        example("stdin"),
+        example("stdout"),
+    );
+    inputs
+}
+
 /// All files by their path below the data folder, and the number of cases in them.
-fn made() -> (BTreeMap<PathBuf, Vec<u8>>, usize) {
+fn made() -> (Files, usize) {
     let mut files = BTreeMap::new();
     let mut cases = 0;
     for (number, (name, lines)) in CALLS.iter().enumerate() {
@@ -113,7 +153,7 @@ fn made() -> (BTreeMap<PathBuf, Vec<u8>>, usize) {
 }
 
 /// All files below a folder, by their path in it.
-fn found(folder: &Path) -> io::Result<BTreeMap<PathBuf, Vec<u8>>> {
+fn found(folder: &Path) -> io::Result<Files> {
     let mut files = BTreeMap::new();
     for entry in fs::read_dir(folder)? {
         let path = entry?.path();
@@ -128,7 +168,7 @@ fn found(folder: &Path) -> io::Result<BTreeMap<PathBuf, Vec<u8>>> {
     Ok(files)
 }
 
-fn write(folder: &Path, files: &BTreeMap<PathBuf, Vec<u8>>) -> io::Result<()> {
+fn write(folder: &Path, files: &Files) -> io::Result<()> {
     for (file, bytes) in files {
         fs::write(folder.join(file), bytes)?;
     }
@@ -139,7 +179,8 @@ fn run(check: bool) -> io::Result<bool> {
     let here = Path::new(env!("CARGO_MANIFEST_DIR"));
     let (folder, crates) = (here.join("data"), here.join("../../crates"));
     let (files, cases) = made();
-    let inputs = replayed(&files);
+    let mut inputs = replayed(&files);
+    inputs.extend(stacksteps_inputs(&files));
     if !check {
         fs::create_dir_all(folder.join("stacksteps"))?;
         write(&folder, &files)?;

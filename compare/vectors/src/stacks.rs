@@ -1,12 +1,16 @@
 //! Calls on two frames and on stacks.
 
+use std::collections::BTreeSet;
+
 use compare::frames::Frames;
 use compare::inputs::{Random, options};
 use compare::{original, recount};
+use naive::Refusal;
 use naive::align::{self, Options, Scratch, Step};
 use naive::gray::Frame;
-use naive::report::{RECORD_BYTES, Rivalry, Room};
-use naive::stacksteps::OPTIONS;
+use naive::refusals::RECORD_SPACE_TOO_SHORT;
+use naive::report::{CONTESTED, RECORD_BYTES, Record, Report, Rivalry, Room};
+use naive::stacksteps::{OPTIONS, RIVALRY};
 
 use crate::cases::{Break, Case, Size, accepted, agreed, frames, refused, sizes_and_longest};
 use crate::images::mode;
@@ -23,10 +27,27 @@ impl Line {
             .number(mode(options.shrink))
     }
 
-    fn scratch(self, scratch: Scratch) -> Self {
-        self.numbers([scratch.bytes, scratch.words])
+    /// The lengths of the scratch, and how much of each the call leaves free in
+    /// content: what it needs, or nothing where it is refused for anything but space.
+    fn scratch<T>(
+        self,
+        lent: Scratch,
+        answer: &Result<T, Refusal>,
+        needed: impl FnOnce() -> Scratch,
+    ) -> Self {
+        let free = match answer {
+            Err(refusal) if refusal.number != RECORD_SPACE_TOO_SHORT => Scratch::NONE,
+            _ => needed(),
+        };
+        self.numbers([lent.bytes, lent.words, free.bytes, free.words])
     }
 }
+
+/// More bits than a level's number has, which changes nothing.
+const MANY_BITS: Options = Options {
+    bits: 40,
+    ..OPTIONS
+};
 
 /// Now and then longer than needed.
 fn ample(random: &mut Random, needed: Scratch) -> Scratch {
@@ -61,6 +82,11 @@ impl Two {
         let (width, height) = self.sizes[number];
         Frame::new(&self.samples[number], width, height)
     }
+
+    fn needed(&self) -> Scratch {
+        let (width, height) = self.sizes[0];
+        Scratch::of_step(width, height, self.options.bits)
+    }
 }
 
 impl Case for Two {
@@ -78,7 +104,7 @@ impl Case for Two {
             .frame(reference)
             .frame(target)
             .options(&self.options)
-            .scratch(self.scratch)
+            .scratch(self.scratch, &naive, || self.needed())
             .answer(agreed(naive, original))
     }
 }
@@ -115,7 +141,8 @@ pub fn shift(random: &mut Random) -> Vec<String> {
         }
     }
     let mut sound = Two::any(random, SOUND, OPTIONS);
-    sound.scratch = Scratch::of_step(SOUND.0, SOUND.1, OPTIONS.bits);
+    sound.scratch = sound.needed();
+    cases.push(Two::any(random, (17, 33), MANY_BITS));
     [accepted(cases), refused(&sound, &STEP_BREAKS)].concat()
 }
 
@@ -165,9 +192,35 @@ impl Asked {
     fn sound(random: &mut Random, rivalry: Option<Rivalry>) -> Self {
         let mut asked = Self::any(random, SOUND, 3, OPTIONS, rivalry);
         asked.frames.reference = 1;
-        asked.room.scratch = asked.frames.scratch(OPTIONS.bits);
+        asked.room.scratch = asked.needed();
         asked.room.records = 2 * 9 * RECORD_BYTES;
         asked
+    }
+
+    fn needed(&self) -> Scratch {
+        self.frames.scratch(self.options.bits)
+    }
+
+    /// The report of an input whose other buffers are in order.
+    fn report(&self) -> Report {
+        let rivalry = &self.rivalry.expect("a report");
+        recount::report(self.frames.stack(), &self.options, rivalry)
+    }
+
+    /// The same input with this many bytes of record space over what is needed.
+    fn with_space(mut self, spare: usize) -> Self {
+        self.room.records = RECORD_BYTES * self.report().records.len() + spare;
+        self
+    }
+
+    /// The same input with this much scratch over what is needed.
+    fn with_scratch(mut self, bytes: usize, words: usize) -> Self {
+        let needed = self.needed();
+        self.room.scratch = Scratch {
+            bytes: needed.bytes + bytes,
+            words: needed.words + words,
+        };
+        self
     }
 }
 
@@ -184,13 +237,13 @@ impl Case for Asked {
             let naive = align::align_stack(stack, options, room.shifts, room.scratch);
             return line
                 .number(room.shifts)
-                .scratch(room.scratch)
+                .scratch(room.scratch, &naive, || self.needed())
                 .answer(agreed(naive, || original::align_stack(stack, options)));
         };
         let naive = naive::report::report(stack, options, rivalry, room);
         line.numbers([rivalry.reach, rivalry.floor, rivalry.margin])
             .numbers([room.shifts, room.verdicts])
-            .scratch(room.scratch)
+            .scratch(room.scratch, &naive, || self.needed())
             .number(room.records)
             .answer(agreed(naive, || {
                 Ok(recount::report(stack, options, rivalry))
@@ -229,14 +282,14 @@ const SCRATCH_BREAKS: [Break<Asked>; 3] = [
 ];
 
 /// Sizes of the walk that differ more than once; the first met is named.
-fn walks(random: &mut Random) -> Vec<String> {
+fn walks(random: &mut Random, rivalry: Option<Rivalry>) -> Vec<String> {
     let differ: [Break<Asked>; 4] = [
         (4, |asked| asked.frames.widths = vec![5, 7, 6, 6, 6]),
         (4, |asked| asked.frames.widths = vec![5, 6, 6, 6, 7]),
         (4, |asked| asked.frames.heights = vec![4, 4, 4, 8, 9]),
         (4, |asked| asked.frames.heights[2] = 1),
     ];
-    let mut asked = Asked::any(random, SOUND, 5, OPTIONS, None);
+    let mut asked = Asked::any(random, SOUND, 5, OPTIONS, rivalry);
     asked.frames.reference = 2;
     refused(&asked, &differ)
 }
@@ -269,8 +322,9 @@ pub fn align_stack(random: &mut Random) -> Vec<String> {
     [
         accepted(cases),
         refused(&Asked::sound(random, None), &breaks),
-        walks(random),
+        walks(random, None),
         no_frame(random, None),
+        accepted([Asked::any(random, (19, 34), 3, MANY_BITS, None)]),
     ]
     .concat()
 }
@@ -344,8 +398,187 @@ pub fn report(random: &mut Random) -> Vec<String> {
         refused(&Asked::sound(random, Some(ALL_NEARBY)), &breaks),
         no_frame(random, Some(ALL_NEARBY)),
         whole_window(random),
+        walks(random, Some(ALL_NEARBY)),
+        accepted(limits(random)),
+        accepted(spaces(random)),
+        short_of_space(random),
+        accepted(bounds(random)),
+        accepted(references(random)),
+        seventeen(random),
+        accepted(pins(random)),
     ]
     .concat()
+}
+
+/// Every reach, floor and margin at its ends, on frames that disagree; and more bits
+/// than are of use.
+fn limits(random: &mut Random) -> Vec<Asked> {
+    const ENDS: [u32; 2] = [0, u32::MAX];
+    let mut cases = Vec::new();
+    for reach in [0, 3] {
+        for (floor, margin) in ENDS
+            .map(|floor| ENDS.map(|margin| (floor, margin)))
+            .concat()
+        {
+            let rivalry = Rivalry {
+                reach,
+                floor,
+                margin,
+            };
+            let frames = vec![random.bytes(40), random.bytes(40), random.bytes(40)];
+            let frames = Frames::of_one_size(frames, (5, 8), 2);
+            cases.push(Asked::of(random, frames, OPTIONS, Some(rivalry)));
+        }
+    }
+    cases.push(Asked::any(random, (19, 9), 3, MANY_BITS, Some(RIVALRY)));
+    // Nothing but the frame and its shift is asked of one frame.
+    let mut one = Asked::any(random, (7, 5), 1, OPTIONS, Some(reaching(64, ALL_NEARBY)));
+    (one.room.scratch, one.room.records) = (Scratch::NONE, 0);
+    cases.push(one);
+    cases
+}
+
+/// Record space and scratch just as long as needed, and longer.
+fn spaces(random: &mut Random) -> Vec<Asked> {
+    let sound = Asked::sound(random, Some(ALL_NEARBY));
+    let few = Asked::any(random, (12, 9), 4, OPTIONS, Some(RIVALRY));
+    let mut none = few.clone();
+    none.rivalry = Some(Rivalry {
+        floor: u32::MAX,
+        ..RIVALRY
+    });
+    let mut cases = Vec::new();
+    for asked in [sound, few, none] {
+        for (spare, bytes, words) in [(0, 0, 0), (1, 7, 0), (20, 0, 5), (57, 3, 2)] {
+            cases.push(asked.clone().with_space(spare).with_scratch(bytes, words));
+        }
+    }
+    cases
+}
+
+/// Refused for space, with more scratch than is needed.
+fn short_of_space(random: &mut Random) -> Vec<String> {
+    let breaks: [Break<Asked>; 3] = [
+        (10, |asked| asked.room.records -= 1),
+        (10, |asked| asked.room.records /= 2),
+        (10, |asked| asked.room.records = 0),
+    ];
+    let asked = Asked::any(random, (12, 9), 4, OPTIONS, Some(ALL_NEARBY));
+    refused(&asked.with_space(0).with_scratch(6, 4), &breaks)
+}
+
+/// Floors and margins that a shift of the window just meets, and just does not: on
+/// noise, and on frames that have all that is compared in their first rows.
+fn bounds(random: &mut Random) -> Vec<Asked> {
+    let noise = vec![random.bytes(99), random.bytes(99)];
+    let top = [16, 20].map(|noisy| [random.bytes(noisy), vec![90; 165 - noisy]].concat());
+    let noise = Frames::of_one_size(noise, (11, 9), 1);
+    let top = Frames::of_one_size(top.to_vec(), (5, 33), 1);
+    let mut cases = Vec::new();
+    for frames in [noise, top] {
+        cases.extend(just_met(random, frames));
+    }
+    cases
+}
+
+/// For each shift beside the step of two frames a floor and a margin that it just
+/// meets, then each of them passed by one.
+fn just_met(random: &mut Random, frames: Frames) -> Vec<Asked> {
+    let all = Asked::of(random, frames, OPTIONS, Some(ALL_NEARBY));
+    let report = all.report();
+    let is_step = |record: &&Record| [record.x, record.y] == report.shifts[..2];
+    let step = report.records.iter().find(is_step).expect("the step");
+
+    let mut cases = Vec::new();
+    for other in &report.records {
+        let rivalry = Rivalry {
+            reach: 1,
+            floor: other.compared,
+            margin: other.disagreeing.saturating_sub(step.disagreeing),
+        };
+        let higher = Rivalry {
+            floor: rivalry.floor + 1,
+            ..rivalry
+        };
+        let narrower = Rivalry {
+            margin: rivalry.margin.saturating_sub(1),
+            ..rivalry
+        };
+        for rivalry in [rivalry, higher, narrower] {
+            let mut case = all.clone();
+            case.rivalry = Some(rivalry);
+            cases.push(case.with_space(0));
+        }
+    }
+    let counts: BTreeSet<usize> = cases
+        .iter()
+        .map(|case| case.report().records.len())
+        .collect();
+    assert!(counts.len() > 3, "{counts:?}");
+    cases
+}
+
+/// The reference first, in the middle and last, also of sixteen frames.
+fn references(random: &mut Random) -> Vec<Asked> {
+    let mut cases = Vec::new();
+    for (size, count) in [((12, 9), 5), ((7, 6), 16)] {
+        for reference in [0, count / 2, count - 1] {
+            let frames = frames(random, size, count);
+            let frames = Frames::of_one_size(frames, size, reference);
+            cases.push(Asked::of(random, frames, OPTIONS, Some(RIVALRY)));
+        }
+    }
+    cases
+}
+
+/// Seventeen frames with all that they would need.
+fn seventeen(random: &mut Random) -> Vec<String> {
+    let size = (3, 2);
+    let sixteen = Asked::any(random, size, 16, OPTIONS, Some(ALL_NEARBY));
+    let one_more: [Break<Asked>; 1] = [(6, |asked| {
+        asked.frames.samples.extend([5; 6]);
+        asked.frames.widths.push(3);
+        asked.frames.heights.push(2);
+        asked.room.shifts += 2;
+        asked.room.verdicts += 1;
+        asked.room.records += 9 * RECORD_BYTES;
+    })];
+    [accepted([sixteen.clone()]), refused(&sixteen, &one_more)].concat()
+}
+
+/// A row of equal pins: one pitch beside the step is as good as the step.
+fn pins(random: &mut Random) -> Vec<Asked> {
+    const PITCH: usize = 8;
+    let size = (40, 9);
+    let pins = |left: usize| -> Vec<u8> {
+        let on_pin = |at: usize| (3..7).contains(&(at / size.0)) && (at + left) % PITCH < 3;
+        let sample = |at| if on_pin(at) { 200 } else { 30 };
+        (0..size.0 * size.1).map(sample).collect()
+    };
+    let options = Options {
+        tolerance: 0, // or the board, which is darkest and most, is not compared
+        ..OPTIONS
+    };
+    let mut cases = Vec::new();
+    for frames in [[0, 0, 0], [0, 2, 3]] {
+        let frames = Frames::of_one_size(frames.map(pins).to_vec(), size, 0);
+        let rivalry = reaching(PITCH as u32, RIVALRY);
+        let asked = Asked::of(random, frames, options, Some(rivalry));
+        let report = asked.report();
+        for frame in 1..3 {
+            let step =
+                |axis: usize| report.shifts[2 * frame + axis] - report.shifts[2 * frame - 2 + axis];
+            let one_pitch_aside = |record: &&Record| {
+                record.frame as usize == frame
+                    && (record.x - step(0)).unsigned_abs() as usize == PITCH
+                    && record.y == step(1)
+            };
+            assert_eq!(report.verdicts[frame], CONTESTED);
+            assert!(report.records.iter().any(|record| one_pitch_aside(&record)));
+        }
+        cases.push(asked);
+    }
+    cases
 }
 
 /// The farthest reach with nothing asked of a rival: 129 by 129 a frame do not fit.

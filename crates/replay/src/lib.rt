@@ -1,5 +1,6 @@
 // What the test programs share: cases read from lines of decimal numbers, and buffers held against them. Nothing here is trusted by
 // a proof: the functions are proved safe and ending, and what they find is compared with a stored output.
+pub mod stacks;
 
 ghost use Prim.Native.Nat.{_≤_, _<_};
 

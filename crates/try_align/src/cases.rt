@@ -1,10 +1,6 @@
 // pyramid, level, shift, align_stack.
-use mtb_align::align::Options;
 use mtb_align::align::StepAnswer;
-use mtb_align::error::Error;
 use mtb_align::error::Outcome;
-use mtb_align::error::Size;
-use mtb_align::shrink::Shrink;
 use replay::MARK;
 use replay::MARK_COORDINATE;
 use replay::MARK_WORD;
@@ -12,80 +8,21 @@ use replay::at;
 use replay::bytes;
 use replay::bytes_agree;
 use replay::coordinate;
-use replay::marked_bytes;
 use replay::marked_coordinates;
-use replay::marked_words;
 use replay::same_bytes;
 use replay::same_coordinates;
 use replay::sizes;
-
-fn mode(subsampled: usize) -> Shrink {
-    if subsampled == 1 {
-        return Shrink::Subsample;
-    }
-    Shrink::Average
-}
-
-fn bits(n: usize) -> u32 {
-    (n % 4294967296) as u32
-}
-
-fn byte(n: usize) -> u8 {
-    (n % 256) as u8
-}
-
-fn options_at(numbers: &[u64], from: usize) -> Options {
-    if from > 1048576 {
-        return Options::default();
-    }
-    Options {
-        bits: bits(at(numbers, from)),
-        tolerance: byte(at(numbers, from + 1)),
-        percentile: byte(at(numbers, from + 2)),
-        shrink: mode(at(numbers, from + 3)),
-    }
-}
+use replay::stacks::bits;
+use replay::stacks::mode;
+use replay::stacks::options_at;
+use replay::stacks::refusal_agrees;
+use replay::stacks::rest_marked;
 
 fn status(o: Outcome) -> u32 {
     match o {
         Outcome::Done => 0,
         Outcome::Refused(e) => e.number(),
     }
-}
-
-fn size_agrees(numbers: &[u64], from: usize, size: Size) -> bool {
-    if from > 2097152 {
-        return false;
-    }
-    at(numbers, from) == size.width && at(numbers, from + 1) == size.height
-}
-
-// The values that stand from number `from` on, their count first.
-fn values_agree(numbers: &[u64], from: usize, e: Error) -> bool {
-    if from > 1048576 {
-        return false;
-    }
-    match e {
-        Error::SizeMismatch(r, t) => at(numbers, from) == 4
-            && size_agrees(numbers, from + 1, r)
-            && size_agrees(numbers, from + 3, t),
-        Error::FrameMismatch(n, t, k) => at(numbers, from) == 5
-            && size_agrees(numbers, from + 1, n)
-            && size_agrees(numbers, from + 3, t)
-            && at(numbers, from + 5) == k,
-        Error::NoSuchReference(r, n) => {
-            at(numbers, from) == 2 && at(numbers, from + 1) == r && at(numbers, from + 2) == n
-        }
-        _ => at(numbers, from) == 0,
-    }
-}
-
-// A refusal with its number and values.
-fn refusal_agrees(numbers: &[u64], from: usize, e: Error) -> bool {
-    if from > 524288 {
-        return false;
-    }
-    at(numbers, from) == e.number() as usize && values_agree(numbers, from + 1, e)
 }
 
 fn pyramid_in(numbers: &[u64], samples: &[u8], scratch: &mut [u8]) -> bool {
@@ -156,14 +93,8 @@ pub(crate) fn level(numbers: &[u64]) -> bool {
     level_in(numbers, &frame[0..len], &scratch[0..more])
 }
 
-// The answer at `from`: a step with its comparisons, or a refusal, after which both kinds of scratch still have the mark.
-fn step_agrees(
-    numbers: &[u64],
-    from: usize,
-    answer: StepAnswer,
-    room: &[u8],
-    words: &[u64],
-) -> bool {
+// The answer at `from`: a step with its comparisons, or a refusal.
+fn step_agrees(numbers: &[u64], from: usize, answer: StepAnswer) -> bool {
     if from > 65536 {
         return false;
     }
@@ -172,9 +103,7 @@ fn step_agrees(
             && coordinate(numbers, from + 1) == s.shift.x
             && coordinate(numbers, from + 2) == s.shift.y
             && at(numbers, from + 3) == s.comparisons as usize,
-        StepAnswer::Refused(e) => {
-            refusal_agrees(numbers, from, e) && marked_bytes(room) && marked_words(words)
-        }
+        StepAnswer::Refused(e) => refusal_agrees(numbers, from, e),
     }
 }
 
@@ -206,7 +135,7 @@ fn stepped(
         room,
         words,
     );
-    step_agrees(numbers, 13 + end, answer, room, words)
+    step_agrees(numbers, 15 + end, answer) && rest_marked(numbers, 13 + end, room, words)
 }
 
 pub(crate) fn shift(numbers: &[u64]) -> bool {
@@ -241,15 +170,8 @@ pub(crate) fn shift(numbers: &[u64]) -> bool {
     )
 }
 
-// The answer at `from`: the shifts, or a refusal, after which every buffer still has the mark.
-fn stack_agrees(
-    numbers: &[u64],
-    from: usize,
-    answer: Outcome,
-    shifts: &[i32],
-    room: &[u8],
-    words: &[u64],
-) -> bool {
+// The answer at `from`: the shifts, or a refusal, after which the shift list still has the mark.
+fn stack_agrees(numbers: &[u64], from: usize, answer: Outcome, shifts: &[i32]) -> bool {
     if from > 65536 {
         return false;
     }
@@ -259,12 +181,7 @@ fn stack_agrees(
                 && at(numbers, from + 1) == shifts.len()
                 && same_coordinates(numbers, from + 2, shifts)
         }
-        Outcome::Refused(e) => {
-            refusal_agrees(numbers, from, e)
-                && marked_coordinates(shifts)
-                && marked_bytes(room)
-                && marked_words(words)
-        }
+        Outcome::Refused(e) => refusal_agrees(numbers, from, e) && marked_coordinates(shifts),
     }
 }
 
@@ -292,7 +209,7 @@ fn stacked(
         room,
         words,
     );
-    stack_agrees(numbers, from + 8, answer, shifts, room, words)
+    stack_agrees(numbers, from + 10, answer, shifts) && rest_marked(numbers, from + 8, room, words)
 }
 
 pub(crate) fn align_stack(numbers: &[u64]) -> bool {

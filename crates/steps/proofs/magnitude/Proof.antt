@@ -1,0 +1,55 @@
+-- `steps::magnitude` is safe. Assumes nothing.
+use mathlib.Core.Path.{_≡_, ap, _∙_}
+use Prim.Native.Nat.{_≤_}
+use borrow.Author.Needs.{needs}
+use native.Mathlib.Omega.{arith}
+use lib.IntN.{ℤ, pos, _-ℤ_}
+use mir.Syntax.{w32, w64}
+use mir.Val.{toZ, ofZ}
+use mir.Facts.{toZ-ofZ}
+use Rattle.definitions.specs.Geometry.{behind}
+use Rattle.laws.specs.Whole.{alone, minus, equal}
+use Rattle.laws.specs.Machine.{part32, widen, fit, fits64, read, negative, not-negative, to-nat}
+use Rattle.steps.proofs.magnitude.Statement.{statement}
+use Rattle.steps.proofs.magnitude.Tie as tie
+
+-- 0 less the coordinate, which lies below 0
+module _ (c : tie.Then1) where
+  abbrev x : ℤ
+  x = c .before .args .coordinate
+
+  abbrev less : ℤ
+  less = pos 0 -ℤ toZ w64 (ofZ w64 (toZ w32 (ofZ w32 x)))
+
+  turned : less ≡ pos (behind x)
+  turned =
+      let f = c .before .fits .coordinate in
+      ap (λ (z : ℤ). pos 0 -ℤ z) (read (toZ-ofZ f) (widen f))
+      ∙ equal (pos 0 -ℤ x) (pos (behind x)) (omega (arith, minus (pos 0) x, negative (toZ-ofZ f) (c .if1 .taken), alone (pos 0 -ℤ x)))
+
+  small : behind x ≤ 2147483648
+  small = part32 x (c .before .fits .coordinate) .1
+
+cast-result : tie.Need-cast-result
+cast-result c = let f = c .before .fits .coordinate in fit (toZ-ofZ f) (widen f)
+
+sub-result : tie.Need-sub-result
+sub-result c = fit (turned c) (fits64 (pos (behind (x c))) (omega (arith, small c)) (omega arith))
+
+cast-result-2 : tie.Need-cast-result-2
+cast-result-2 c =
+    to-nat (read (turned c) (fits64 (pos (behind (x c))) (omega (arith, small c)) (omega arith))) (omega (arith, small c))
+
+returns : tie.Need-returns
+returns c = search needs
+
+cast-result-3 : tie.Need-cast-result-3
+cast-result-3 c =
+    let f = c .before .fits .coordinate in
+    to-nat (not-negative (toZ-ofZ f) (c .if1 .left)) (omega (arith, part32 _ f))
+
+returns-2 : tie.Need-returns-2
+returns-2 c = search needs
+
+pub magnitude-spec : {M : Type 1} → statement M
+magnitude-spec = tie.close (tie.spec cast-result sub-result cast-result-2 returns cast-result-3 returns-2)

@@ -1,0 +1,68 @@
+// Runs the program stacksteps on many inputs: for each a line with the lengths of the input and of the text that is expected for it,
+// then both.
+use replay::MARK;
+use replay::at;
+use replay::conclude;
+use replay::marked_bytes;
+use replay::read_line;
+
+// The text for an input is `expected`, and nothing is written past it.
+fn text_agrees(input: &[u8], expected: &[u8]) -> bool {
+    let mut out = [MARK; 8192];
+    let end = steps::put_text(input, &mut out);
+    check::same(&out[0..end], expected) && marked_bytes(&out[end..])
+}
+
+// The input of n bytes from `from` on, and the m bytes behind it.
+fn agrees(text: &[u8], from: usize, n: usize, m: usize) -> bool {
+    if n > 65536 {
+        return false;
+    }
+    if m > 8192 {
+        return false;
+    }
+    if from > 524288 {
+        return false;
+    }
+    let middle = from + n;
+    let end = middle + m;
+    if end > text.len() {
+        return false;
+    }
+    text_agrees(&text[from..middle], &text[middle..end])
+}
+
+// Where the next case begins.
+fn past(from: usize, n: usize, m: usize) -> usize {
+    if from > 524288 {
+        return from;
+    }
+    from + n % 524288 + m % 524288
+}
+
+fn run(text: &[u8]) {
+    let mut lengths = [0u64; 2];
+    let mut cases: u64 = 0;
+    let mut next: usize = 0;
+    while cases < 1000 {
+        if next >= text.len() {
+            conclude(true, 0, cases);
+            return;
+        }
+        let found = read_line(text, next, &mut lengths);
+        let n = at(&lengths, 0);
+        let m = at(&lengths, 1);
+        if !agrees(text, found.next, n, m) {
+            conclude(false, 0, cases);
+            return;
+        }
+        next = past(found.next, n, m);
+        cases += 1;
+    }
+}
+
+fn main() {
+    let mut text = [0u8; 524288];
+    let n = io::read_full(0, &mut text);
+    run(&text[..n]);
+}
