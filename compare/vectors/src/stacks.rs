@@ -43,7 +43,7 @@ impl Line {
     }
 }
 
-/// More bits than a level's number has, which changes nothing.
+/// More bits than a frame of any size has levels for.
 const MANY_BITS: Options = Options {
     bits: 40,
     ..OPTIONS
@@ -410,8 +410,8 @@ pub fn report(random: &mut Random) -> Vec<String> {
     .concat()
 }
 
-/// Every reach, floor and margin at its ends, on frames that disagree; and more bits
-/// than are of use.
+/// Floors and margins at both ends, on frames that disagree; more bits than are of
+/// use; and one frame, for which nothing is lent but its shift and its verdict.
 fn limits(random: &mut Random) -> Vec<Asked> {
     const ENDS: [u32; 2] = [0, u32::MAX];
     let mut cases = Vec::new();
@@ -431,7 +431,6 @@ fn limits(random: &mut Random) -> Vec<Asked> {
         }
     }
     cases.push(Asked::any(random, (19, 9), 3, MANY_BITS, Some(RIVALRY)));
-    // Nothing but the frame and its shift is asked of one frame.
     let mut one = Asked::any(random, (7, 5), 1, OPTIONS, Some(reaching(64, ALL_NEARBY)));
     (one.room.scratch, one.room.records) = (Scratch::NONE, 0);
     cases.push(one);
@@ -468,14 +467,15 @@ fn short_of_space(random: &mut Random) -> Vec<String> {
 }
 
 /// Floors and margins that a shift of the window just meets, and just does not: on
-/// noise, and on frames that have all that is compared in their first rows.
+/// noise, on frames that have all that is compared in their first rows, and on equal
+/// frames, whose step compares all that can be.
 fn bounds(random: &mut Random) -> Vec<Asked> {
     let noise = vec![random.bytes(99), random.bytes(99)];
     let top = [16, 20].map(|noisy| [random.bytes(noisy), vec![90; 165 - noisy]].concat());
-    let noise = Frames::of_one_size(noise, (11, 9), 1);
-    let top = Frames::of_one_size(top.to_vec(), (5, 33), 1);
+    let equal = vec![random.bytes(54); 2];
     let mut cases = Vec::new();
-    for frames in [noise, top] {
+    for (frames, size) in [(noise, (11, 9)), (top.to_vec(), (5, 33)), (equal, (9, 6))] {
+        let frames = Frames::of_one_size(frames, size, 1);
         cases.extend(just_met(random, frames));
     }
     cases

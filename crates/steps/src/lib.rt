@@ -100,12 +100,10 @@ fn byte_at(records: &[u8], at: usize) -> u64
 
 // Field f of record i: 32 bits, low byte first.
 fn field(records: &[u8], i: usize, f: usize) -> u64
+    requires { ⌜ f < 5 ⌝ }
     ensures { λ r. ⌜ r < 4294967296 ⌝ }
 {
     if i > 65536 {
-        return 0;
-    }
-    if f > 4 {
         return 0;
     }
     let at = 20 * i + 4 * f;
@@ -118,11 +116,9 @@ fn field(records: &[u8], i: usize, f: usize) -> u64
 // A field that is signed, by two's complement.
 fn put_signed_field(out: &mut [u8], at: usize, bits: u64) -> usize
     requires { ⌜ at ≤ length (now out) ⌝ }
+    requires { ⌜ bits < 4294967296 ⌝ }
     ensures { λ r. ⌜ r ≤ length (now (out .entry)) ⌝ }
 {
-    if bits >= 4294967296 {
-        return at;
-    }
     if bits >= 2147483648 {
         return put_signed(out, at, true, 4294967296 - bits);
     }
