@@ -5,7 +5,7 @@ use super::error::Outcome;
 use super::error::side_over;
 use super::strips::pack;
 ghost use mathlib.Core.Path.{_≡_};
-ghost use Prim.Native.Nat.{ℕ, _+_, _*_, _/_, _≤_, _<_};
+ghost use Prim.Native.Nat.{ℕ, _+_, _*_, _/_, _≤_, _<_, min};
 ghost use lib.ListN.{length, getD, set};
 ghost use Rattle.definitions.specs.Sum.{sum};
 ghost use Rattle.definitions.specs.Build.{build};
@@ -30,7 +30,7 @@ fn count_one(lanes: &mut [u32; 1024], lane: usize, sample: u8)
 }
 
 // Four samples, each into a lane of its own, so that no count waits for the one before it. How a value's count is spread over
-// the lanes is left open on purpose, here and in `tally_row`: only the total of the four is read.
+// the lanes is left open on purpose, here and in `tally_rows`: only the total of the four is read.
 fn count_four(lanes: &mut [u32; 1024], samples: &[u8], at: usize)
     requires { ⌜ Tally (now lanes) (now samples) at × (length (now samples) ≤ 67108864) × (at + 4 ≤ length (now samples)) ⌝ }
     ensures { λ _. ⌜ Tally (now (lanes .exit)) (now (samples .entry)) (at + 4) ⌝ }
@@ -42,7 +42,7 @@ fn count_four(lanes: &mut [u32; 1024], samples: &[u8], at: usize)
 }
 
 // The lanes count the samples before `from`, and then n more.
-fn tally_row(lanes: &mut [u32; 1024], samples: &[u8], from: usize, n: usize)
+fn tally_rows(lanes: &mut [u32; 1024], samples: &[u8], from: usize, n: usize)
     requires { ⌜ Tally (now lanes) (now samples) from × (length (now samples) ≤ 67108864) × (from + n ≤ length (now samples)) ⌝ }
     ensures { λ _. ⌜ Tally (now (lanes .exit)) (now (samples .entry)) (from + n) ⌝ }
 {
@@ -80,6 +80,16 @@ fn fold_lanes(lanes: &[u32; 1024]) -> [u64; 256]
     bins
 }
 
+// Rows that are tallied together: short rows one by one would cost more than their samples.
+fn up_to_eight(rows: usize) -> usize
+    ensures { λ r. ⌜ r ≡ min rows 8 ⌝ }
+{
+    if rows < 8 {
+        return rows;
+    }
+    8
+}
+
 // How many samples have each of the 256 values.
 pub(crate) fn histogram(samples: &[u8], width: usize, height: usize) -> [u64; 256]
     requires { ⌜ (width ≤ 8192) × (height ≤ 8192) × (length (now samples) ≡ width * height) ⌝ }
@@ -89,9 +99,10 @@ pub(crate) fn histogram(samples: &[u8], width: usize, height: usize) -> [u64; 25
     let mut from: usize = 0;
     let mut y: usize = 0;
     while y < height {
-        tally_row(&mut lanes, samples, from, width);
-        from += width;
-        y += 1;
+        let rows = up_to_eight(height - y);
+        tally_rows(&mut lanes, samples, from, rows * width);
+        from += rows * width;
+        y += rows;
     }
     fold_lanes(&lanes)
 }

@@ -1,12 +1,12 @@
--- `mtb_align::threshold::tally_row` meets its contract. The lanes count the samples before `at`, in both loops. Assumes nothing.
+-- `mtb_align::threshold::tally_rows` meets its contract. The lanes count the samples before `at`, in both loops. Assumes nothing.
 use mathlib.Core.Path.{_≡_, refl}
 use Prim.Native.Nat.{_+_, _-_, _≤_}
 use native.Mathlib.Omega.{arith}
 use Rattle.laws.specs.Cut.{Bytes}
 use Rattle.mtb_align.specs.Tally.{Tally}
 use Rattle.mtb_align.proofs.Lanes.{lane-0, tally-fits, tally-more}
-use Rattle.mtb_align.proofs.threshold.tally_row.Statement.{statement}
-use Rattle.mtb_align.proofs.threshold.tally_row.Tie as tie
+use Rattle.mtb_align.proofs.threshold.tally_rows.Statement.{statement}
+use Rattle.mtb_align.proofs.threshold.tally_rows.Tie as tie
 
 abbrev Inv-loop : tie.InvT-loop
 Inv-loop lanes₀ samples from n end at₀ lanes at = (at ≤ end) × Tally lanes samples at
@@ -74,8 +74,8 @@ returns c =
     let e : l .at ≡ x .from + x .n = omega arith in
     rw e at (l .inv .1)
 
-pub tally-row-spec : {M : Type 1} → statement M
-tally-row-spec =
+pub tally-rows-spec : {M : Type 1} → statement M
+tally-rows-spec =
     tie.close
     (tie.spec
     Inv-loop
