@@ -5,7 +5,7 @@ use mathlib.Core.List.{List, [], _∷_}
 use lib.IntN.{pos, negsuc}
 use Rattle.definitions.specs.Sum.{sum, countIf}
 use Rattle.definitions.specs.Build.{build, joined}
-use Rattle.definitions.specs.Geometry.{Rect, indexOf, source, atSources, shifted, largest, commonCrop}
+use Rattle.definitions.specs.Geometry.{indexOf, source, atSources, shifted, largest, commonCrop}
 use Rattle.definitions.specs.Gray.{grey, fromRgb}
 use Rattle.definitions.specs.Shrink.{average, mean, halvedSample, shrink2}
 use Rattle.definitions.specs.Threshold.{bins, target, binsAdded, cut, thresholdBit, exclusionBit}

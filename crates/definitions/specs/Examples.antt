@@ -1,7 +1,7 @@
 -- Small examples of what the cards leave open, by computation.
 use Prim.Native.Nat.{ℕ}
 use mathlib.Core.Path.{_≡_, refl}
-use mathlib.Core.List.{List, [], _∷_}
+use mathlib.Core.List.{[], _∷_}
 use lib.IntN.{pos, negsuc}
 use Rattle.definitions.specs.Sum.{sum, countIf}
 use Rattle.definitions.specs.Build.{build, joined, keepIf}
@@ -9,10 +9,10 @@ use Rattle.definitions.specs.Geometry.{Shift, origin, indexOf, source, a
 use Rattle.definitions.specs.Shrink.{average, subsample, mean, halvedSample, shrink2, sideAt, levelOf}
 use Rattle.definitions.specs.Threshold.{bins, target, binsAdded, cut, thresholdBit, exclusionBit}
 use Rattle.definitions.specs.Bitmap.{wordsPerRow, bitOf, bitAt}
-use Rattle.definitions.specs.Difference.{Bitmaps, Counts, bitmapsOf, bitmapsIn, comparedBit, disagreeingBit, overlap, counts}
+use Rattle.definitions.specs.Difference.{Bitmaps, bitmapsOf, bitmapsIn, comparedBit, disagreeingBit, overlap, counts}
 use Rattle.definitions.specs.Align.{Stack, shift, logUpTo, log2, levels, tried, leastFrom, earliestLeast, refine, bitmapsAt, countsAt, stepAt, step, stackOf, exposure, neighbour, walk, stepOf}
 use Rattle.definitions.specs.Report.{Terms, window, isRival, survey, frameCounts, limitOf, rivals, bytes32, twosComplement, recordBytes, verdict}
-use Rattle.definitions.specs.Refusals.{answer, accepted, refused, sideOver, wrongLength, percentileOver, noReference, framesOver, cutChecks, pairDiffers, framesChecks}
+use Rattle.definitions.specs.Refusals.{answer, refused, sideOver, wrongLength, percentileOver, noReference, framesOver, cutChecks, pairDiffers, framesChecks}
 
 -- A pixel whose threshold bit and exclusion bit are these.
 abbrev pixel : ℕ → ℕ → Bitmaps

@@ -5,7 +5,7 @@ use Prim.Native.Nat.{ℕ, zero, suc, _+_, _-_, _*_, _/_, _%_, _<_, _≤_, min}
 use native.Mathlib.Nat.{zero-add, suc-add, add-mul, mul-le-mul-right}
 use native.Mathlib.Omega.{arith}
 use lib.Bits.{differ}
-use lib.IntN.{ℤ, pos}
+use lib.IntN.{pos}
 use lib.ListN.{length, getD, take, drop, length-drop}
 use lib.Seq.{getD-take, getD-drop, length-take-le, take-take, drop-drop}
 use Rattle.definitions.specs.Sum.{sum}

@@ -1,14 +1,14 @@
 -- Bit i of a number, and the bits of what the word operations give. In the logic, on u64, `a & b`, `a | b`, `a ^ b` are
 -- `bitAnd a b`, `bitOr a b`, `bitXor a b` of `lib.Bits`, `a >> k` is `a / 2 ^ k` and `a << k` is `(a * 2 ^ k) % 2 ^ 64`, k < 64.
 -- Assumes nothing.
-use mathlib.Core.Path.{_≡_, refl, sym, ap, ap₂, _∙_}
+use mathlib.Core.Path.{_≡_, sym, ap, ap₂, _∙_}
 use Prim.Native.Nat.{ℕ, zero, suc, _+_, _-_, _*_, _/_, _%_, _^_, _≤_, _<_, min, max}
 use native.Mathlib.Nat.{mod-lt, div-one, div-eq-of-lt, zero-lt-suc, mul-assoc, lt-of-lt-of-le, le-refl, sub-self}
-use native.Mathlib.Numerals.{add-one, one-add}
+use native.Mathlib.Numerals.{one-add}
 use native.Mathlib.Omega.{arith}
 use lib.Arith.{digits-mod}
-use lib.Pow.{pow-add, pow-pos, pow-mono, shr-shr, shl-shr, field, mod-mod-pow, split, high}
-use lib.Bits.{bitAnd, bitOr, bitXor, differ, and-step, or-step, xor-step, and-shr, or-shr, xor-shr, shifted-even, or-shifted-r, or-lt}
+use lib.Pow.{pow-add, pow-mono, shr-shr, shl-shr, field, mod-mod-pow}
+use lib.Bits.{bitAnd, bitOr, bitXor, differ, and-step, or-step, xor-step, and-shr, or-shr, xor-shr, shifted-even}
 use lib.Count.{ones, ones-step}
 use mathlib.Core.Logic.{⊎-elim}
 use Rattle.laws.specs.Cases.{lt-or-le}

@@ -5,7 +5,7 @@ use mathlib.Core.Bool.{Bool, true, false, cond, not, _||_}
 use mathlib.Core.List.{List, [], _∷_, _++_}
 use Prim.Native.Nat.{ℕ, _*_, _<_, _≤_}
 use native.Mathlib.Omega.{arith}
-use lib.Dec.{ltb, leb, eqb}
+use lib.Dec.{ltb}
 use borrow.Author.Tests.{lt-ltb, le-ltb, le-leb, lt-leb, eq-eqb, ne-eqb, ltb-true, ltb-false}
 use Rattle.definitions.specs.Bitmap.{paddingSet}
 use Rattle.definitions.specs.Refusals.{Check, Answer, accepted, refused, answer, after, sideOver, eitherOver, wrongLength, percentileOver, scratchShort, padded, spaceShort, pixelOutside, reportChecks}

@@ -1,13 +1,13 @@
 -- The checks of a report: those before the record space, what a report that passes them was given, and the record space last.
 -- Assumes nothing.
-use mathlib.Core.Path.{_≡_, refl, sym, ap, _∙_}
+use mathlib.Core.Path.{_≡_, refl, sym}
 use mathlib.Core.Bool.{Bool, true, false, cond}
 use mathlib.Core.List.{List, [], _∷_, _++_}
 use Prim.Native.Nat.{ℕ, _*_, _≤_}
 use lib.ListN.{length, getD}
 use borrow.Author.Tests.{ltb-false, eqb-true, not-false}
 use Rattle.definitions.specs.Align.{stepBytes, stepWords, stackNeed}
-use Rattle.definitions.specs.Refusals.{Check, Answer, accepted, refused, answer, after, wrongLength, reachOver, scratchShort, framesChecks, stackScratchChecks, surveyChecks, reportChecks}
+use Rattle.definitions.specs.Refusals.{Check, accepted, refused, answer, after, wrongLength, reachOver, scratchShort, framesChecks, stackScratchChecks, surveyChecks, reportChecks}
 use Rattle.laws.specs.Checks.{not-both, passed, pass-all, accepted-too}
 use Rattle.laws.specs.ChecksStack.{stop-all, passed-all, frames-in-order, StackInOrder}
 

@@ -1,13 +1,12 @@
 -- The crop: a place is in it exactly if every frame, moved by its shift, covers it. Assumes nothing.
-use mathlib.Core.Path.{_≡_, refl, sym, ap, _∙_, subst}
+use mathlib.Core.Path.{_≡_, refl, sym, ap, subst}
 use mathlib.Core.List.{List, [], _∷_, map}
 use Prim.Native.Nat.{ℕ, zero, suc, _+_, _-_, _<_, _≤_, suc-le-suc}
 use native.Mathlib.Nat.{not-suc-le-zero, le-of-suc-le-suc, zero-lt-suc}
 use native.Mathlib.Omega.{arith}
 use lib.ListN.{length, getD}
 use lib.IntN.{ℤ}
-use Rattle.definitions.specs.Build.{build}
-use Rattle.definitions.specs.Geometry.{Shift, Source, Inside, source, origin, ahead, behind, largest, cropStart, cropLost, cropWidth, Rect, commonCrop, Covers, Place, shiftsOf, listed}
+use Rattle.definitions.specs.Geometry.{Shift, Inside, source, origin, ahead, behind, largest, cropStart, cropLost, cropWidth, commonCrop, Covers, Place, shiftsOf, listed}
 use Rattle.definitions.specs.Align.{Stack, shiftOf, shifts}
 use Rattle.definitions.specs.Report.{reportCrop}
 use Rattle.laws.specs.Lists.{build-length, build-at}

@@ -1,15 +1,15 @@
 -- The earliest least: it is one of the list, none costs less, and every earlier one costs more. Assumes nothing.
-use mathlib.Core.Path.{_≡_, refl, sym, ap, _∙_, subst}
+use mathlib.Core.Path.{_≡_, refl, ap}
 use mathlib.Core.Bool.{Bool, true, false, cond}
-use mathlib.Core.List.{List, [], _∷_, map}
-use Prim.Native.Nat.{ℕ, zero, suc, _+_, _*_, _<_, _≤_, zero-le, suc-le-suc}
+use mathlib.Core.List.{List, [], _∷_}
+use Prim.Native.Nat.{ℕ, zero, suc, _<_, _≤_, suc-le-suc}
 use native.Mathlib.Nat.{not-suc-le-zero, le-of-suc-le-suc, zero-lt-suc}
 use native.Mathlib.Omega.{arith}
 use lib.Dec.{ltb}
 use lib.ListN.{length, getD}
 use borrow.Author.Tests.{lt-ltb, le-ltb, ltb-true, ltb-false}
-use Rattle.definitions.specs.Geometry.{Shift, origin, offset}
-use Rattle.definitions.specs.Align.{candidates, tried, leastFrom, earliestLeast, refine}
+use Rattle.definitions.specs.Geometry.{Shift, origin}
+use Rattle.definitions.specs.Align.{tried, leastFrom, earliestLeast, refine}
 
 -- b is the first of the list that costs least
 pub record EarliestLeast (cost : Shift → ℕ) (l : List Shift) (b : Shift) : Type 0 where

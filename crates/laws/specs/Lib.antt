@@ -40,5 +40,6 @@ pub mod ChecksStack
 pub mod StackWalks
 pub mod ChecksReport
 pub mod Surveys
+pub mod Kept
 pub mod Bands
 pub mod Demand

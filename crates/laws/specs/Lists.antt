@@ -1,14 +1,14 @@
 -- Laws of lists by index and of images by pixel and by rows: one more, length, element, extensionality.
 -- Assumes nothing.
 use mathlib.Core.Path.{_≡_, refl, sym, ap, _∙_, subst}
-use mathlib.Core.List.{List, [], _∷_, _++_, append-assoc, append-nil}
+use mathlib.Core.List.{List, [], _∷_, _++_, append-assoc}
 use Prim.Native.Nat.{ℕ, zero, suc, _+_, _*_, _-_, _<_, _≤_}
 use native.Mathlib.Nat.{not-suc-le-zero, suc-mul, zero-mul, mul-le-mul-right, le-refl, le-suc, lt-of-lt-of-le}
 use native.Mathlib.Numerals.{add-one}
 use native.Mathlib.Omega.{arith}
 use native.Mathlib.Decide.{decLt}
 use Rattle.definitions.specs.Build.{build, joined, image}
-use lib.ListN.{length, getD, set, take, drop, replicate, length-append, length-replicate, List·getD-append, replicate-append-replicate}
+use lib.ListN.{length, getD, set, replicate, length-append, List·getD-append, replicate-append-replicate}
 use lib.Seq.{getD-append-add, getD-at, ext-getD, append-snoc, set-at}
 
 -- an index below n + 1 is n, or below n

@@ -3,13 +3,13 @@
 use mathlib.Core.Path.{_≡_, refl, sym, ap, _∙_, subst}
 use mathlib.Core.Bool.{Bool, true, false, cond}
 use mathlib.Core.Logic.{⊎-elim}
-use Prim.Native.Nat.{ℕ, zero, suc, _+_, _-_, _<_, _≤_, min}
+use Prim.Native.Nat.{ℕ, suc, _+_, _-_, _<_, _≤_, min}
 use native.Mathlib.Omega.{arith}
 use native.Mathlib.Decide.{decLt}
 use lib.Dec.{ltb}
 use lib.IntN.{ℤ, pos, negsuc, subℕ, _-ℤ_}
 use borrow.Author.Tests.{lt-ltb, le-ltb, ltb-true}
-use Rattle.definitions.specs.Geometry.{Shift, Source, inside, outside, Inside, indexOf, source, atSource, atSources, ahead, behind}
+use Rattle.definitions.specs.Geometry.{inside, outside, Inside, indexOf, source, ahead, behind}
 use Rattle.laws.specs.Cases.{lt-or-le}
 use Rattle.laws.specs.Whole.{alone, gap, sub-yes, sub-no}
 

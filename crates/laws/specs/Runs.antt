@@ -1,7 +1,7 @@
 -- A row of a moved image as three runs: zeros, the samples of the places that have a source, zeros. Assumes nothing.
 use mathlib.Core.Path.{_≡_, refl, sym, ap, ap₂, _∙_}
 use mathlib.Core.List.{List, [], _∷_, _++_, append-assoc, append-nil}
-use Prim.Native.Nat.{ℕ, zero, suc, _+_, _-_, _*_, _<_, min}
+use Prim.Native.Nat.{ℕ, zero, suc, _+_, _-_, _*_, _<_, _≤_, min}
 use native.Mathlib.Nat.{add-zero, add-suc, add-assoc}
 use native.Mathlib.Omega.{arith}
 use lib.ListN.{length, getD, replicate}
@@ -10,7 +10,7 @@ use lib.Seq.{sets}
 use Rattle.definitions.specs.Build.{build, sample}
 use Rattle.definitions.specs.Geometry.{Shift, Source, inside, outside, source, atSource, atSources, ahead, behind}
 use Rattle.laws.specs.Whole.{alone}
-use Rattle.laws.specs.Lists.{build-same, build-const}
+use Rattle.laws.specs.Lists.{build-same, build-const, build-length}
 use Rattle.laws.specs.Places.{source-before, source-inside, source-past}
 use Rattle.laws.specs.Writes.{sets-append}
 
@@ -32,6 +32,17 @@ module _ {A : Type 0} where
   pub sets-then : (l : List A) (i n : ℕ) (vs ws : List A) {m new : List A} → length vs ≡ n → m ≡ sets l i vs → new ≡ sets m (i + n) ws → new ≡ sets l i (vs ++ ws)
   sets-then l i n vs ws {m} {new} e p q =
       q ∙ ap₂ (λ (x : List A) (k : ℕ). sets x (i + k) ws) p (sym e) ∙ sym (sets-append l i vs ws)
+
+  -- one value in the places from a to before b, where it is what f has there
+  pub fill-more : (l : List A) (f : ℕ → A) (a b : ℕ) (value : A) {m new : List A} → a ≤ b → ((v : ℕ) → a ≤ v → v < b → value ≡ f v) → m ≡ sets l 0 (build a f)
+      → new ≡ sets m a (replicate (b - a) value) → new ≡ sets l 0 (build b f)
+  fill-more l f a b value {m} {new} h same p q =
+      let d = b - a in
+      let up : a + d ≡ b = omega arith in
+      let at : 0 + a ≡ a = omega arith in
+      let run : replicate d value ≡ build d (λ (k : ℕ). f (a + k)) = sym (build-const d value) ∙ build-same d (λ (k : ℕ). value) (λ (k : ℕ). f (a + k)) (λ k i. same (a + k) (omega arith) (omega arith)) in
+      sets-then l 0 a (build a f) (build d (λ (k : ℕ). f (a + k))) (build-length a f) p (q ∙ ap₂ (λ (i : ℕ) (w : List A). sets m i w) (sym at) run)
+      ∙ ap (sets l 0) (sym (build-add a d f) ∙ ap (λ (n : ℕ). build n f) up)
 
 -- ---- the places of a side that have a source are one run
 

@@ -3,9 +3,9 @@
 use mathlib.Core.Path.{_≡_, refl, sym, ap, ap₂, _∙_}
 use mathlib.Core.Bool.{Bool, cond}
 use mathlib.Core.Logic.{⊎-elim}
-use mathlib.Core.List.{List, [], _∷_, _++_, append-nil, append-assoc}
+use mathlib.Core.List.{List, [], _∷_, _++_}
 use Prim.Native.Nat.{ℕ, zero, suc, _+_, _-_, _*_, _<_, _≤_}
-use native.Mathlib.Nat.{add-zero, add-suc}
+use native.Mathlib.Nat.{add-zero}
 use native.Mathlib.Omega.{arith}
 use lib.IntN.{ℤ}
 use lib.ListN.{length, drop, set}
@@ -15,6 +15,7 @@ use Rattle.definitions.specs.Build.{build}
 use Rattle.definitions.specs.Geometry.{Shift, offset, listed}
 use Rattle.definitions.specs.Align.{Stack, stepOf, shiftSum, shiftOf, stackNeed}
 use Rattle.definitions.specs.Refusals.{FreeUpTo}
+use Rattle.laws.specs.Runs.{build-add}
 use Rattle.laws.specs.Cases.{lt-or-le}
 use Rattle.laws.specs.Lists.{build-none, build-more, build-length, build-same}
 use Rattle.laws.specs.Crop.{listed-length}
@@ -59,14 +60,6 @@ shift-above a k h =
 -- ---- lists
 
 module _ {A : Type 0} where
-  pub build-apart : (m n : ℕ) (f : ℕ → A) → build (m + n) f ≡ build m f ++ build n (λ (i : ℕ). f (m + i))
-  unfolding build
-  build-apart m zero f = ap (λ (k : ℕ). build k f) (add-zero m) ∙ sym (append-nil (build m f))
-  build-apart m (suc n) f =
-      ap (λ (k : ℕ). build k f) (add-suc m n)
-      ∙ ap (λ (l : List A). l ++ (f (m + n) ∷ [])) (build-apart m n f)
-      ∙ append-assoc (build m f) (build n (λ (i : ℕ). f (m + i))) (f (m + n) ∷ [])
-
   -- from j on: the first, and those from j + 1 on
   pub build-front : (j n : ℕ) (f : ℕ → A) → f j ∷ build n (λ (i : ℕ). f (j + 1 + i)) ≡ build (n + 1) (λ (i : ℕ). f (j + i))
   unfolding build
@@ -75,7 +68,7 @@ module _ {A : Type 0} where
       let one : 1 + n ≡ n + 1 = omega arith in
       let next : (i : ℕ) → j + 1 + i ≡ j + (1 + i) = λ i. omega arith in
       ap₂ (λ (x : A) (l : List A). x ∷ l) first (build-same n (λ (i : ℕ). f (j + 1 + i)) (λ (i : ℕ). f (j + (1 + i))) (λ i h. ap f (next i)))
-      ∙ sym (build-apart 1 n (λ (i : ℕ). f (j + i)))
+      ∙ sym (build-add 1 n (λ (i : ℕ). f (j + i)))
       ∙ ap (λ (k : ℕ). build k (λ (i : ℕ). f (j + i))) one
 
 pub listed-append : (l m : List Shift) → listed (l ++ m) ≡ listed l ++ listed m
@@ -125,7 +118,7 @@ put-both l m n f {mid} {new} p q =
     q
     ∙ ap₂ (λ (k : List ℤ) (j : ℕ). sets k j ws) p long
     ∙ sym (sets-append l 0 vs ws)
-    ∙ ap (sets l 0) (sym (listed-append (build m f) (build n (λ (i : ℕ). f (m + i)))) ∙ ap listed (sym (build-apart m n f)))
+    ∙ ap (sets l 0) (sym (listed-append (build m f) (build n (λ (i : ℕ). f (m + i)))) ∙ ap listed (sym (build-add m n f)))
 
 -- ---- scratch
 

@@ -1,14 +1,14 @@
 -- How far a step and a frame's shift lie, and how many comparisons a step makes. Assumes nothing.
-use mathlib.Core.Path.{_≡_, refl, sym, ap, _∙_, subst}
-use mathlib.Core.Bool.{Bool, true, false, cond}
-use mathlib.Core.List.{List, [], _∷_, map}
-use Prim.Native.Nat.{ℕ, zero, suc, _+_, _-_, _*_, _^_, _<_, _≤_, min}
+use mathlib.Core.Path.{_≡_, sym, ap, _∙_, subst}
+use mathlib.Core.Bool.{Bool, cond}
+use mathlib.Core.List.{map}
+use Prim.Native.Nat.{ℕ, zero, suc, _+_, _-_, _*_, _^_, _<_, _≤_}
 use native.Mathlib.Nat.{sub-self}
 use native.Mathlib.Omega.{arith}
 use mathlib.Core.Logic.{⊎-elim}
-use lib.Dec.{leb, lit≤}
+use lib.Dec.{lit≤}
 use lib.IntN.{ℤ, pos, negsuc, natAbs, _+ℤ_}
-use lib.ListN.{length, getD}
+use lib.ListN.{getD}
 use lib.Pow.{pow-mono}
 use borrow.Author.Tests.{le-leb, lt-leb}
 use native.Mathlib.Nat.{mul-le-mul-right, le-refl}
@@ -16,7 +16,7 @@ use Rattle.definitions.specs.Geometry.{Shift, origin, offset, doubled, ahead, b
 use Rattle.definitions.specs.Align.{Options, Exposure, Stack, candidates, tried, refine, stepAt, comparisonsAt, costOf, step, comparisons, levels, stepOf, shiftSum, shiftOf}
 use Rattle.laws.specs.Cases.{lt-or-le}
 use Rattle.laws.specs.Whole.{alone, add}
-use Rattle.laws.specs.Least.{EarliestLeast, refine-earliest-least, tried-nine}
+use Rattle.laws.specs.Least.{refine-earliest-least, tried-nine}
 use Rattle.laws.specs.Levels.{levels-most}
 
 -- both coordinates are at most n from 0

@@ -1,35 +1,34 @@
 -- A survey row by row: the rivals of one row of the window, as a loop finds them and writes their records. Assumes nothing.
-use mathlib.Core.Path.{_≡_, refl, sym, ap, ap₂, _∙_, subst}
+use mathlib.Core.Path.{_≡_, refl, sym, ap, ap₂, _∙_}
 use mathlib.Core.Bool.{Bool, true, false, cond, _&&_}
-use mathlib.Core.List.{List, [], _∷_, _++_, map, map-append, append-assoc, append-nil}
+use mathlib.Core.List.{List, [], _∷_, _++_, append-assoc}
 use mathlib.Core.Logic.{⊎-elim}
 use Prim.Native.Nat.{ℕ, zero, suc, _+_, _-_, _*_, _%_, _<_, _≤_}
-use native.Mathlib.Nat.{add-zero, eq-or-lt-of-le, mul-le-mul, mul-le-mul-right}
+use native.Mathlib.Nat.{eq-or-lt-of-le, mul-le-mul, mul-le-mul-right}
 use native.Mathlib.Numerals.{add-one}
 use native.Mathlib.Omega.{arith}
 use lib.Dec.{leb}
 use lib.IntN.{ℤ, pos, negsuc, _+ℤ_, _-ℤ_}
-use lib.ListN.{length, getD, take, drop, length-append, length-map, length-drop}
-use lib.Seq.{sets, length-sets, getD-take, getD-drop, length-take-le, take-at}
-use Rattle.definitions.specs.Build.{build, joined, image, keepIf}
+use lib.ListN.{length, getD, take, drop, length-append, length-map}
+use lib.Seq.{sets, take-at}
+use Rattle.definitions.specs.Build.{build, joined, keepIf}
 use Rattle.definitions.specs.Geometry.{Shift, Source, inside, outside, source, atSource, atSources, origin, offset, listed, ahead, behind}
 use Rattle.definitions.specs.Bitmap.{wordAt, bitAt, total}
 use Rattle.definitions.specs.Difference.{Counts, bitmapsIn, comparedBit, disagreeingBit, overlap, counts}
 use Rattle.definitions.specs.Align.{Stack, neighbour, stepOf, shiftOf}
-use Rattle.definitions.specs.Report.{Terms, frameCounts, limitOf, rivals, window, isRival, survey, Record, bytes32, twosComplement, recordBytes, recordsBytes}
+use Rattle.definitions.specs.Report.{Terms, frameCounts, limitOf, rivals, frameRecords, window, isRival, survey, Record, bytes32, twosComplement, recordBytes, recordsBytes}
 use Rattle.definitions.specs.Sum.{sum}
 use Rattle.laws.specs.Members.{joined-sum}
-use Rattle.laws.specs.Sums.{sum-split, sum-first, sum-le, sum-le-one}
+use Rattle.laws.specs.Sums.{sum-le, sum-le-one}
 use Rattle.laws.specs.Bits.{bit-lt}
-use Rattle.laws.specs.Lists.{build-none, build-more, build-is, joined-none, joined-more, joined-at}
-use Rattle.laws.specs.Sizes.{row-inside}
+use Rattle.laws.specs.Lists.{build-none, build-more}
 use Rattle.laws.specs.Writes.{sets-append, sets-front}
 use Rattle.laws.specs.Whole.{add, minus, equal}
 use Rattle.laws.specs.Cases.{lt-or-le, eq-or-ne}
 use Rattle.laws.specs.ChecksStack.{neighbour-below, neighbour-above}
 use Rattle.laws.specs.StackWalks.{shift-below, shift-above}
 use borrow.Author.Tests.{le-ltb, lt-leb}
-use Rattle.laws.specs.Records.{rivals-none, rivals-survey, bytes-length}
+use Rattle.laws.specs.Records.{rivals-none, rivals-survey}
 
 -- ---- both counts are at most the pixels
 
@@ -102,33 +101,6 @@ module _ {A : Type 0} (test : A → Bool) where
   unfolding keepIf
   keep-more n f = ap (keepIf test) (build-more n f) ∙ keep-append (build n f) (f n ∷ [])
 
-  -- as many more as pass
-  pub keep-count : (n : ℕ) (f : ℕ → A) {m k : ℕ} → m ≡ length (keepIf test (build n f)) → k ≡ m + cond (test (f n)) 1 0 → k ≡ length (keepIf test (build (n + 1) f))
-  keep-count n f {m} {k} e q =
-      q ∙ ap₂ _+_ e (one (test (f n))) ∙ sym (ap length (keep-more n f) ∙ length-append (keepIf test (build n f)) (cond (test (f n)) (f n ∷ []) []))
-    where
-      one : (t : Bool) → cond t 1 0 ≡ length (cond t (f n ∷ []) [])
-      one true = refl
-      one false = refl
-
-  -- the first of a list by index are no more than all
-  keep-further : (m d : ℕ) (f : ℕ → A) → length (keepIf test (build m f)) ≤ length (keepIf test (build (m + d) f))
-  keep-further m zero f = let z : m ≡ m + 0 = omega arith in omega (arith, ap (λ (k : ℕ). length (keepIf test (build k f))) z)
-  keep-further m (suc d) f =
-      let z : m + d + 1 ≡ m + suc d = omega arith in
-      omega (
-        arith,
-        ap (λ (i : ℕ). length (keepIf test (build i f))) z,
-        ap length (keep-more (m + d) f),
-        length-append (keepIf test (build (m + d) f)) (cond (test (f (m + d))) (f (m + d) ∷ []) []),
-        keep-further m d f,
-      )
-
-  pub keep-less : (m n : ℕ) (f : ℕ → A) → m ≤ n → length (keepIf test (build m f)) ≤ length (keepIf test (build n f))
-  keep-less m n f h =
-      let z : m + (n - m) ≡ n = omega arith in
-      omega (arith, keep-further m (n - m) f, ap (λ (k : ℕ). length (keepIf test (build k f))) z)
-
   -- nothing where nothing passes
   pub keep-nothing : ((a : A) → test a ≡ false) → (l : List A) → keepIf test l ≡ []
   unfolding keepIf
@@ -145,24 +117,6 @@ module _ {A : Type 0} (test : A → Bool) where
           → length (keepIf test (build n f ++ (f n ∷ []))) ≡ length (keepIf test (build n f) ++ cond t (f n ∷ []) []) → length (keepIf test (build n f ++ (f n ∷ []))) ≤ suc n
       on true h p q = omega arith
       on false h p q = omega arith
-
--- the first of a sum and the next are no more than all
-pub sum-part : (n j : ℕ) (f : ℕ → ℕ) → j < n → sum j f + f j ≤ sum n f
-sum-part n j f h =
-    let e : n ≡ j + (n - j) = omega arith in
-    let d : n - j ≡ suc (n - suc j) = omega arith in
-    omega (
-      arith,
-      ap (λ (k : ℕ). sum k f) e,
-      sum-split j (n - j) f,
-      ap (λ (k : ℕ). sum k (λ (i : ℕ). f (j + i))) d,
-      sum-first (n - suc j) (λ (i : ℕ). f (j + i)),
-      ap f (add-zero j),
-    )
-
--- nor are the first rows and the next longer than all
-pub joined-part : {A : Type 0} (n j : ℕ) (r : ℕ → List A) → j < n → length (joined j r) + length (r j) ≤ length (joined n r)
-joined-part n j r h = omega (arith, joined-sum n r, joined-sum j r, sum-part n j (λ (i : ℕ). length (r i)) h)
 
 -- ---- the rows of a window
 
@@ -202,10 +156,6 @@ module _ (at : Shift → Counts) (floor limit : ℕ) (few : (s : Shift) → at s
   unfolding isRival
   under-floor s = ap (λ (t : Bool). t && leb (at s .disagreeing) limit) (lt-leb floor (at s .compared) (few s))
 
-  pub row-nothing : (c : Shift) (reach j : ℕ) → rowRivals at c reach floor limit j ≡ []
-  unfolding rowRivals
-  row-nothing c reach j = keep-nothing (isRival at floor limit) under-floor (windowRow c reach j)
-
   pub survey-nothing : (c : Shift) (reach : ℕ) → survey at c reach floor limit ≡ []
   unfolding survey
   survey-nothing c reach = keep-nothing (isRival at floor limit) under-floor (window c reach)
@@ -215,39 +165,22 @@ pub rival-by-counts : (at : Shift → Counts) (floor limit : ℕ) {c : Counts} (
 unfolding isRival
 rival-by-counts at floor limit s e = ap (λ (n : Counts). leb floor (n .compared) && leb (n .disagreeing) limit) e
 
--- ---- how many there are, by a loop over the columns of a row and one over the rows
+-- The rivals in the first i columns of row j.
+unfoldable pub rivalsUpTo : (Shift → Counts) → Shift → ℕ → ℕ → ℕ → ℕ → ℕ → List Shift
+rivalsUpTo at centre reach floor limit j i = keepIf (isRival at floor limit) (build i (windowAt centre reach j))
 
-module _ (at : Shift → Counts) (centre : Shift) (reach floor limit : ℕ) where
-  -- in the first i columns of row j
-  unfoldable pub rivalsUpTo : ℕ → ℕ → List Shift
-  rivalsUpTo j i = keepIf (isRival at floor limit) (build i (windowAt centre reach j))
+pub column-few : (at : Shift → Counts) (centre : Shift) (reach floor limit j i : ℕ) → length (rivalsUpTo at centre reach floor limit j i) ≤ i
+unfolding rivalsUpTo
+column-few at centre reach floor limit j i = keep-few (isRival at floor limit) i (windowAt centre reach j)
 
-  pub column-none : (j : ℕ) → 0 ≡ length (rivalsUpTo j 0)
-  unfolding rivalsUpTo
-  column-none j = sym (ap length (keep-none (isRival at floor limit) (windowAt centre reach j)))
-
-  pub column-few : (j i : ℕ) → length (rivalsUpTo j i) ≤ i
-  unfolding rivalsUpTo
-  column-few j i = keep-few (isRival at floor limit) i (windowAt centre reach j)
-
-  pub column-more : (j i : ℕ) {m k d : ℕ} {s : Shift} → m ≡ length (rivalsUpTo j i) → s ≡ windowAt centre reach j i → d ≡ cond (isRival at floor limit s) 1 0 → k ≡ m + d → k ≡ length (rivalsUpTo j (i + 1))
-  unfolding rivalsUpTo
-  column-more j i {m} {k} {d} {s} p q t u =
-      keep-count (isRival at floor limit) i (windowAt centre reach j) p
-      (u ∙ ap (λ (n : ℕ). m + n) (t ∙ ap (λ (z : Shift). cond {A = ℕ} (isRival at floor limit z) 1 0) q))
-
-  pub column-all : (j : ℕ) {i m : ℕ} → i ≡ suc (2 * reach) → m ≡ length (rivalsUpTo j i) → m ≡ length (rowRivals at centre reach floor limit j)
-  unfolding rowRivals windowRow rivalsUpTo
-  column-all j e p = p ∙ ap (λ (n : ℕ). length (rivalsUpTo j n)) e
-
-  pub row-more : (j : ℕ) {m d k : ℕ} → m ≡ length (joined j (rowRivals at centre reach floor limit)) → d ≡ length (rowRivals at centre reach floor limit j) → k ≡ m + d
-      → k ≡ length (joined (j + 1) (rowRivals at centre reach floor limit))
-  row-more j p q u =
-      u ∙ ap₂ _+_ p q
-      ∙ sym (ap length (joined-more j (rowRivals at centre reach floor limit)) ∙ length-append (joined j (rowRivals at centre reach floor limit)) (rowRivals at centre reach floor limit j))
-
-  pub row-all : {j m : ℕ} → j ≡ suc (2 * reach) → m ≡ length (joined j (rowRivals at centre reach floor limit)) → m ≡ length (survey at centre reach floor limit)
-  row-all e p = p ∙ ap (λ (n : ℕ). length (joined n (rowRivals at centre reach floor limit))) e ∙ sym (ap length (survey-rows at centre reach floor limit))
+-- the rivals in the first j rows are few
+pub rows-few : (at : Shift → Counts) (centre : Shift) (reach floor limit j : ℕ) → length (joined j (rowRivals at centre reach floor limit)) ≤ j * suc (2 * reach)
+rows-few at centre reach floor limit j =
+    omega (
+      arith,
+      joined-sum j (rowRivals at centre reach floor limit),
+      sum-le j (suc (2 * reach)) (λ (i : ℕ). length (rowRivals at centre reach floor limit i)) (λ i _. row-few at centre reach floor limit i),
+    )
 
 -- ---- a record's bytes
 
@@ -297,138 +230,6 @@ pub bytes-append : (l m : List Record) → recordsBytes (l ++ m) ≡ recordsByte
 unfolding recordsBytes
 bytes-append [] m = refl
 bytes-append (e ∷ l) m = ap (λ (k : List ℕ). recordBytes e ++ k) (bytes-append l m) ∙ sym (append-assoc (recordBytes e) (recordsBytes l) (recordsBytes m))
-
--- The bytes of the records that name some shifts.
-unfoldable pub bytesOf : (Shift → Counts) → ℕ → List Shift → List ℕ
-bytesOf at k l = recordsBytes (map (recordOf at k) l)
-
-pub bytes-of-append : (at : Shift → Counts) (k : ℕ) (l m : List Shift) → bytesOf at k (l ++ m) ≡ bytesOf at k l ++ bytesOf at k m
-unfolding bytesOf
-bytes-of-append at k l m = ap recordsBytes (map-append (recordOf at k) l m) ∙ bytes-append (map (recordOf at k) l) (map (recordOf at k) m)
-
-pub bytes-of-length : (at : Shift → Counts) (k : ℕ) (l : List Shift) → length (bytesOf at k l) ≡ 20 * length l
-unfolding bytesOf
-bytes-of-length at k l = bytes-length (map (recordOf at k) l) ∙ ap (λ (n : ℕ). 20 * n) (length-map l (recordOf at k))
-
--- ---- records as they are written, some shifts after others
-
-module _ (at : Shift → Counts) (k : ℕ) (space : List ℕ) (start : ℕ) where
-  -- the records of some shifts stand from `start` on, and the next goes behind them
-  pub record Written (l : List Shift) (new : List ℕ) (next : ℕ) : Type 0 where
-    pub held : new ≡ sets space start (bytesOf at k l)
-    pub ends : next ≡ start + 20 * length l
-
-  pub written-none : Written [] space start
-  unfolding bytesOf recordsBytes
-  written-none = record { held = refl; ends = omega arith }
-
-  pub written-more : {l : List Shift} (m : List Shift) {mid new : List ℕ} {next after : ℕ} → Written l mid next → new ≡ sets mid next (bytesOf at k m) → after ≡ next + 20 * length m
-      → Written (l ++ m) new after
-  written-more {l} m {mid} {new} {next} {after} w e p = record {
-    held =
-        e
-        ∙ ap₂ (λ (x : List ℕ) (i : ℕ). sets x i (bytesOf at k m)) (w .held) (w .ends ∙ ap (λ (n : ℕ). start + n) (sym (bytes-of-length at k l)))
-        ∙ sym (sets-append space start (bytesOf at k l) (bytesOf at k m))
-        ∙ ap (sets space start) (sym (bytes-of-append at k l m));
-    ends = omega (arith, p, w .ends, length-append l m);
-  }
-
-  -- the space is as long as it was
-  pub written-long : {l : List Shift} {new : List ℕ} {next : ℕ} → Written l new next → length new ≡ length space
-  written-long {l} w = ap length (w .held) ∙ length-sets space start (bytesOf at k l)
-
--- no rivals, no bytes
-pub bytes-none : (at : Shift → Counts) (k : ℕ) (l : List Shift) → 0 ≡ length l → (space : List ℕ) (start : ℕ) → space ≡ sets space start (bytesOf at k l)
-unfolding bytesOf recordsBytes
-bytes-none at k [] e space start = refl
-bytes-none at k (s ∷ l) e space start = absurd (let z : 0 ≡ suc (length l) = e in omega arith)
-
--- ---- a row's records, by a loop over its columns
-
--- the record of one shift that passes, and no bytes for one that does not
-bytes-one : (at : Shift → Counts) (k : ℕ) (s : Shift) (t : Bool) → bytesOf at k (cond t (s ∷ []) []) ≡ cond t (recordBytes (recordOf at k s)) []
-unfolding bytesOf recordsBytes
-bytes-one at k s true = append-nil (recordBytes (recordOf at k s))
-bytes-one at k s false = refl
-
-length-one : (s : Shift) (t : Bool) → length (cond t (s ∷ []) []) ≡ cond t 1 0
-length-one s true = refl
-length-one s false = refl
-
-module _ (at : Shift → Counts) (k : ℕ) (space : List ℕ) (start : ℕ) (centre : Shift) (reach floor limit : ℕ) where
-  pub record-more : (j i : ℕ) {mid new : List ℕ} {next after : ℕ} {c : Counts} (s : Shift) → Written at k space start (rivalsUpTo at centre reach floor limit j i) mid next
-      → s ≡ windowAt centre reach j i → c ≡ at s → new ≡ sets mid next (cond (isRival (λ (x : Shift). c) floor limit origin) (recordBytes (record { frame = k; shift = s; counts = c })) [])
-      → after ≡ next + 20 * cond (isRival (λ (x : Shift). c) floor limit origin) 1 0
-      → Written at k space start (rivalsUpTo at centre reach floor limit j (i + 1)) new after
-  unfolding rivalsUpTo
-  record-more j i {mid} {new} {next} {after} {c} s w p e q r =
-      let test = isRival at floor limit in
-      let t = test (windowAt centre reach j i) in
-      let same : isRival (λ (x : Shift). c) floor limit origin ≡ t = rival-by-counts at floor limit s e ∙ ap test p in
-      let named : record { frame = k; shift = s; counts = c } ≡ recordOf at k (windowAt centre reach j i) = λ m. record { frame = k; shift = p m; counts = (e ∙ ap at p) m } in
-      subst (λ (l : List Shift). Written at k space start l new after) (sym (keep-more test i (windowAt centre reach j)))
-      (written-more at k space start (cond t (windowAt centre reach j i ∷ []) []) w
-      (q ∙ ap₂ (λ (b : Bool) (d : Record). sets mid next (cond b (recordBytes d) [])) same named ∙ ap (sets mid next) (sym (bytes-one at k (windowAt centre reach j i) t)))
-      (r ∙ ap (λ (b : Bool). next + 20 * cond b 1 0) same ∙ ap (λ (n : ℕ). next + 20 * n) (sym (length-one (windowAt centre reach j i) t))))
-
-  pub record-none : (j : ℕ) → Written at k space start (rivalsUpTo at centre reach floor limit j 0) space start
-  unfolding rivalsUpTo
-  record-none j = subst (λ (l : List Shift). Written at k space start l space start) (sym (keep-none (isRival at floor limit) (windowAt centre reach j))) (written-none at k space start)
-
-  -- there is room for the next one
-  pub record-fits : (j i : ℕ) {mid : List ℕ} {next : ℕ} {c : Counts} (s : Shift) → Written at k space start (rivalsUpTo at centre reach floor limit j i) mid next → s ≡ windowAt centre reach j i → c ≡ at s
-      → i < suc (2 * reach) → start + 20 * length (rowRivals at centre reach floor limit j) ≤ length space → next + 20 * cond (isRival (λ (x : Shift). c) floor limit origin) 1 0 ≤ length mid
-  unfolding rowRivals windowRow rivalsUpTo
-  record-fits j i {mid} {next} {c} s w p e h room =
-      let test = isRival at floor limit in
-      let f = windowAt centre reach j in
-      let same : isRival (λ (x : Shift). c) floor limit origin ≡ test (f i) = rival-by-counts at floor limit s e ∙ ap test p in
-      let next-one = keep-count test i f {m = length (keepIf test (build i f))} refl refl in
-      omega (
-        arith,
-        room,
-        w .ends,
-        written-long at k space start w,
-        ap (λ (b : Bool). cond {A = ℕ} b 1 0) same,
-        next-one,
-        keep-less test (i + 1) (suc (2 * reach)) f (omega arith),
-      )
-
-  pub record-all : (j : ℕ) {i : ℕ} {new : List ℕ} {next : ℕ} → i ≡ suc (2 * reach) → Written at k space start (rivalsUpTo at centre reach floor limit j i) new next
-      → Written at k space start (rowRivals at centre reach floor limit j) new next
-  unfolding rowRivals windowRow rivalsUpTo
-  record-all j {i} {new} {next} e w = subst (λ (n : ℕ). Written at k space start (rivalsUpTo at centre reach floor limit j n) new next) e w
-
-  -- ---- and by one over its rows
-
-  pub rows-none : Written at k space start (joined 0 (rowRivals at centre reach floor limit)) space start
-  rows-none = subst (λ (l : List Shift). Written at k space start l space start) (sym (joined-none (rowRivals at centre reach floor limit))) (written-none at k space start)
-
-  pub rows-more : (j : ℕ) {mid new : List ℕ} {next after : ℕ} → Written at k space start (joined j (rowRivals at centre reach floor limit)) mid next
-      → new ≡ sets mid next (bytesOf at k (rowRivals at centre reach floor limit j)) → after ≡ next + 20 * length (rowRivals at centre reach floor limit j)
-      → Written at k space start (joined (j + 1) (rowRivals at centre reach floor limit)) new after
-  rows-more j {mid} {new} {next} {after} w e p =
-      subst (λ (l : List Shift). Written at k space start l new after) (sym (joined-more j (rowRivals at centre reach floor limit)))
-      (written-more at k space start (rowRivals at centre reach floor limit j) w e p)
-
-  pub rows-fit : (j : ℕ) {mid : List ℕ} {next : ℕ} → Written at k space start (joined j (rowRivals at centre reach floor limit)) mid next → j < suc (2 * reach)
-      → start + 20 * length (survey at centre reach floor limit) ≤ length space → next + 20 * length (rowRivals at centre reach floor limit j) ≤ length mid
-  rows-fit j {mid} {next} w h room =
-      let r = rowRivals at centre reach floor limit in
-      omega (
-        arith,
-        room,
-        w .ends,
-        written-long at k space start w,
-        ap length (survey-rows at centre reach floor limit),
-        joined-part (suc (2 * reach)) j r h,
-      )
-
-  pub rows-all : {j : ℕ} {new : List ℕ} {next : ℕ} → j ≡ suc (2 * reach) → Written at k space start (joined j (rowRivals at centre reach floor limit)) new next
-      → Written at k space start (survey at centre reach floor limit) new next
-  rows-all {j} {new} {next} e w =
-      subst (λ (l : List Shift). Written at k space start l new next) (sym (survey-rows at centre reach floor limit))
-      (subst (λ (n : ℕ). Written at k space start (joined n (rowRivals at centre reach floor limit)) new next) e w)
 
 -- ---- the step of a frame, by the shifts of a stack
 
@@ -488,13 +289,7 @@ listed-y (s ∷ l) (suc i) = let e : 2 * suc i + 1 ≡ suc (suc (2 * i + 1)) = o
 -- ---- how many rivals there can be
 
 survey-few : (at : Shift → Counts) (c : Shift) (reach floor limit : ℕ) → length (survey at c reach floor limit) ≤ suc (2 * reach) * suc (2 * reach)
-survey-few at c reach floor limit =
-    omega (
-      arith,
-      ap length (survey-rows at c reach floor limit),
-      joined-sum (suc (2 * reach)) (rowRivals at c reach floor limit),
-      sum-le (suc (2 * reach)) (suc (2 * reach)) (λ (j : ℕ). length (rowRivals at c reach floor limit j)) (λ j _. row-few at c reach floor limit j),
-    )
+survey-few at c reach floor limit = omega (arith, ap length (survey-rows at c reach floor limit), rows-few at c reach floor limit (suc (2 * reach)))
 
 pub rivals-few : (a : Stack) (q : Terms) (k : ℕ) → q .reach ≤ 64 → length (rivals a q k) ≤ 16641
 rivals-few a q k h = ⊎-elim
@@ -507,35 +302,15 @@ rivals-few a q k h = ⊎-elim
 pub rivals-most : (a : Stack) (q : Terms) (n : ℕ) → q .reach ≤ 64 → n ≤ 16 → sum n (λ (k : ℕ). length (rivals a q k)) ≤ 266256
 rivals-most a q n h few = omega (arith, sum-le n 16641 (λ (k : ℕ). length (rivals a q k)) (λ k _. rivals-few a q k h), mul-le-mul-right 16641 few)
 
--- ---- parts of a list that holds rows one after another
-
-pub row-of-joined : (n w : ℕ) (r : ℕ → List ℕ) (l : List ℕ) → ((i : ℕ) → length (r i) ≡ w) → take (n * w) l ≡ joined n r → n * w ≤ length l → (k : ℕ) → k < n → take w (drop (k * w) l) ≡ r k
-row-of-joined n w r l long e room k h =
-    let inside = row-inside w n k h in
-    let part = take w (drop (k * w) l) in
-    let size : length part ≡ w = length-take-le w (drop (k * w) l) (omega (arith, length-drop (k * w) l)) in
-    let at : (i : ℕ) → i < w → getD part i 0 ≡ getD (r k) i 0 = λ i b.
-    getD-take w (drop (k * w) l) i 0 b
-    ∙ getD-drop (k * w) l i 0
-    ∙ sym (getD-take (n * w) l (k * w + i) 0 (omega arith))
-    ∙ ap (λ (m : List ℕ). getD m (k * w + i) 0) e
-    ∙ joined-at n w r 0 (λ j _. long j) k i h b in
-    build-is w (λ (i : ℕ). getD (r k) i 0) part 0 size at ∙ sym (build-is w (λ (i : ℕ). getD (r k) i 0) (r k) 0 (long k) (λ i _. refl))
-
--- ---- the records of some frames, one after another
-
-pub none-written : (space : List ℕ) (r : ℕ → List Record) → space ≡ sets space 0 (recordsBytes (joined 0 r))
-unfolding recordsBytes
-none-written space r = ap (λ (l : List Record). sets space 0 (recordsBytes l)) (sym (joined-none r))
-
-pub more-written : (space : List ℕ) (r : ℕ → List Record) (k : ℕ) {mid new : List ℕ} {next : ℕ} → mid ≡ sets space 0 (recordsBytes (joined k r)) → next ≡ 20 * length (joined k r)
-    → new ≡ sets mid next (recordsBytes (r k)) → new ≡ sets space 0 (recordsBytes (joined (k + 1) r))
-more-written space r k {mid} {new} {next} p e q =
-    let at : next ≡ 0 + length (recordsBytes (joined k r)) = omega (arith, bytes-length (joined k r)) in
-    q
-    ∙ ap₂ (λ (x : List ℕ) (i : ℕ). sets x i (recordsBytes (r k))) p at
-    ∙ sym (sets-append space 0 (recordsBytes (joined k r)) (recordsBytes (r k)))
-    ∙ ap (sets space 0) (sym (ap recordsBytes (joined-more k r) ∙ bytes-append (joined k r) (r k)))
+pub frames-few : (a : Stack) (q : Terms) (n : ℕ) → q .reach ≤ 64 → n ≤ 16 → length (joined n (frameRecords a q)) ≤ 266256
+unfolding frameRecords
+frames-few a q n h few =
+    omega (
+      arith,
+      joined-sum n (frameRecords a q),
+      sum-le n 16641 (λ (k : ℕ). length (frameRecords a q k)) (λ k _. omega (arith, length-map (rivals a q k) (recordOf (frameCounts a k) k), rivals-few a q k h)),
+      mul-le-mul-right 16641 few,
+    )
 
 -- what was stored at the front of a list
 pub stored-front : {A : Type 0} (old vs : List A) → length vs ≤ length old → {new : List A} → new ≡ sets old 0 vs → (m : ℕ) → m ≡ length vs → take m new ≡ vs

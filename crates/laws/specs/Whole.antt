@@ -4,7 +4,7 @@
 --     lt-true, lt-false, le-true, le-false     from a test to the parts;  true-lt, false-lt, true-le, false-le     and back
 --     alone                           min (ahead z) (behind z) ≡ 0: that one of the two is 0, in a form that `omega` reads
 -- Assumes nothing.
-use mathlib.Core.Path.{_≡_, refl, sym, ap, _∙_, subst}
+use mathlib.Core.Path.{_≡_, refl, sym, ap, _∙_}
 use mathlib.Core.Bool.{Bool, true, false}
 use Prim.Native.Nat.{ℕ, zero, suc, _+_, _-_, _*_, _<_, _≤_, min, zero-le}
 use native.Mathlib.Nat.{add-zero}

@@ -1,7 +1,7 @@
 -- A number made from its bits, and the two laws that tie it to `bitOf`. Assumes nothing.
 use mathlib.Core.Path.{_≡_, refl, sym, ap, ap₂, _∙_}
-use mathlib.Core.Logic.{_⊎_, inl, inr, ⊎-elim}
-use Prim.Native.Nat.{ℕ, zero, suc, _+_, _-_, _*_, _/_, _%_, _^_, _≤_, _<_}
+use mathlib.Core.Logic.{_⊎_, ⊎-elim}
+use Prim.Native.Nat.{ℕ, zero, suc, _+_, _-_, _*_, _%_, _^_, _≤_, _<_}
 use native.Mathlib.Nat.{mod-one, mod-eq-of-lt, eq-or-lt-of-le, le-of-suc-le-suc, add-mul, mul-assoc, mul-comm, add-zero, add-suc, zero-mul}
 use native.Mathlib.Numerals.{add-one, one-add}
 use native.Mathlib.Omega.{arith}
@@ -9,7 +9,7 @@ use lib.Arith.{digits-lt}
 use lib.Pow.{high, low, mod-pow-add, shl-exact, pow-add}
 use lib.Bits.{bitOr, or-shifted-r}
 use Rattle.definitions.specs.Bitmap.{bitOf, wordOf}
-use Rattle.laws.specs.Bits.{bit-lt, bit-mod, bit-past}
+use Rattle.laws.specs.Bits.{bit-mod, bit-past}
 
 pub word-none : (f : ℕ → ℕ) → wordOf 0 f ≡ 0
 unfolding wordOf

@@ -1,12 +1,12 @@
 -- A run of stores, `sets l i vs`: what a loop that writes has stored so far, one store more, and the whole. Assumes nothing.
-use mathlib.Core.Path.{_≡_, refl, sym, ap, _∙_, subst}
+use mathlib.Core.Path.{_≡_, refl, sym, ap, _∙_}
 use mathlib.Core.List.{List, [], _∷_, _++_, append-nil}
-use Prim.Native.Nat.{ℕ, zero, suc, _+_, _*_, _<_, _≤_}
+use Prim.Native.Nat.{ℕ, suc, _+_, _*_, _<_, _≤_}
 use native.Mathlib.Nat.{add-zero, zero-add, add-suc, suc-add}
 use native.Mathlib.Omega.{arith}
-use lib.ListN.{length, getD, set, take, drop, drop-of-length-le}
-use lib.Seq.{sets, sets-eq, length-sets, set-comm, getD-set-other, drop-set-lt}
-use Rattle.definitions.specs.Build.{build, joined, image}
+use lib.ListN.{length, getD, set, drop, drop-of-length-le}
+use lib.Seq.{sets, sets-eq, set-comm, getD-set-other, drop-set-lt}
+use Rattle.definitions.specs.Build.{build, joined}
 use Rattle.laws.specs.Lists.{build-none, build-more, build-length, joined-none, joined-more, joined-length}
 
 module _ {A : Type 0} where

@@ -1,16 +1,16 @@
 -- What the report's functions know of two packed pairs and of a frame of a stack. Assumes nothing.
-use mathlib.Core.Path.{_≡_, refl, sym, ap, ap₂, _∙_, subst, fun-ext}
-use mathlib.Core.Bool.{Bool, true, cond}
+use mathlib.Core.Path.{_≡_, sym, ap, ap₂, _∙_, subst, fun-ext}
+use mathlib.Core.Bool.{true, cond}
 use mathlib.Core.List.{List}
 use mathlib.Core.Logic.{⊎-elim}
-use Prim.Native.Nat.{ℕ, suc, _+_, _-_, _*_, _/_, _<_, _≤_}
-use native.Mathlib.Nat.{mul-comm, mul-le-mul-right, eq-or-lt-of-le}
+use Prim.Native.Nat.{ℕ, _+_, _-_, _*_, _/_, _<_, _≤_}
+use native.Mathlib.Nat.{zero-add, mul-comm, mul-le-mul-right, eq-or-lt-of-le}
 use native.Mathlib.Omega.{arith}
 use borrow.Author.Tests.{eq-eqb, ne-eqb, ltb-true}
 use lib.Dec.{ltb, eqb}
 use lib.IntN.{ℤ, pos}
-use lib.ListN.{length, getD, take, replicate}
-use lib.Seq.{sets, length-sets, getD-take}
+use lib.ListN.{length, getD, take}
+use lib.Seq.{sets, length-sets, length-take-le, getD-take}
 use Rattle.definitions.specs.Build.{build}
 use Rattle.definitions.specs.Geometry as geometry
 use Rattle.definitions.specs.Threshold.{cut}
@@ -19,23 +19,23 @@ use Rattle.definitions.specs.Bitmap.{bitmapWords, total}
 use Rattle.definitions.specs.Difference as difference
 use Rattle.definitions.specs.Align.{neighbour, exposure, bitmapsAt, countsAt, stepOf, shiftOf, shifts, stepWords, stackNeed}
 use Rattle.definitions.specs.Refusals.{FreeUpTo}
-use Rattle.definitions.specs.Report.{Terms, survey, frameCounts, limitOf, rivals, verdict}
+use Rattle.definitions.specs.Report.{Terms, frameCounts, rivals, verdict}
 use Rattle.laws.specs.Bands.{band-part, band-none}
 use Rattle.laws.specs.Cases.{lt-or-le}
 use Rattle.laws.specs.Crop.{listed-length}
-use Rattle.laws.specs.Lists.{build-at, build-const, build-length}
-use Rattle.laws.specs.Records.{rivals-none, rivals-survey}
+use Rattle.laws.specs.Lists.{build-at, build-is, build-length}
+use Rattle.laws.specs.Records.{rivals-none}
 use Rattle.laws.specs.Sizes.{area}
 use Rattle.laws.specs.StackWalks.{free-wider, need-two}
-use Rattle.laws.specs.Steps.{Within, within-wider, Small, shift-small, step-small}
-use Rattle.laws.specs.Surveys.{stored-front, counts-few, compared-most, rowRivals, less, neighbour-among, step-less, listed-x, listed-y}
+use Rattle.laws.specs.Steps.{Within, within-wider, shift-small, step-small}
+use Rattle.laws.specs.Surveys.{stored-front, counts-few, compared-most, less, neighbour-among, step-less, listed-x, listed-y}
 use Rattle.mtb_align.specs.declared.align.Options.{Options}
 use Rattle.mtb_align.specs.declared.difference.Counts.{Counts}
 use Rattle.mtb_align.specs.declared.geometry.Shift.{Shift}
 use Rattle.mtb_align.specs.Answers.{countsIn, shiftIn}
 use Rattle.mtb_align.specs.Search.{mapAt, TwoPairs, pairCounts, exposureOf, fourOf, optionsIn}
 use Rattle.mtb_align.specs.Stack.{stackIn, frameIn, Ready}
-use Rattle.mtb_align.specs.Survey.{Framed, Placed, rowNumbers, sampleOf}
+use Rattle.mtb_align.specs.Survey.{Framed, Placed, sampleOf}
 use Rattle.mtb_align.proofs.Four.{four-front, four-free, four-pairs, four-counts}
 
 -- both counts are at most the pixels of the largest frame
@@ -64,8 +64,13 @@ unfolding pairCounts
 none-reach {words} {w} {h} q floor e s =
     omega (arith, ltb-true (total (mapAt words w h 1) w h) floor e, compared-most w h (mapAt words w h 0) (mapAt words w h 1) (mapAt words w h 2) (mapAt words w h 3) s)
 
+-- the front of a list, element by element
+pub front-copied : (n : ℕ) (l : List ℕ) → n ≤ length l → build n (λ (k : ℕ). getD l (0 + k) 0) ≡ take n l
+front-copied n l h =
+    sym (build-is n (λ (k : ℕ). getD l (0 + k) 0) (take n l) 0 (length-take-le n l h) (λ i b. getD-take n l i 0 b ∙ ap (λ (j : ℕ). getD l j 0) (sym (zero-add i))))
+
 -- two frames are more than one
-two-frames : {n r k : ℕ} → (k ≡ r → ⊥) → r < n → k < n → 1 < n
+pub two-frames : {n r k : ℕ} → (k ≡ r → ⊥) → r < n → k < n → 1 < n
 two-frames {n} {r} {k} apart p q = ⊎-elim
     (λ (l : k < r). omega arith)
     (λ (l : r ≤ k). ⊎-elim (λ (e : r ≡ k). absurd (apart (sym e))) (λ (m : r < k). omega arith) (eq-or-lt-of-le l))
@@ -90,12 +95,6 @@ module _ (w h n : ℕ) (samples : List ℕ) (r : ℕ) (o : Options) (k : ℕ) wh
   pub none-here : (q : Terms) → k ≡ r → length (rivals (stackIn w h n samples r o) q k) ≡ 0
   none-here q e = ap length (rivals-none (stackIn w h n samples r o) q k e)
 
-  pub numbers-none : (q : Terms) → k ≡ r → rowNumbers (stackIn w h n samples r o) q k ≡ replicate {A = ℕ} (suc (2 * q .reach)) 0
-  unfolding rowNumbers
-  numbers-none q e =
-      ap (λ (t : Bool). build (suc (2 * q .reach)) (λ (j : ℕ). cond {A = ℕ} t 0 (length (rowRivals (frameCounts (stackIn w h n samples r o) k) (stepOf (stackIn w h n samples r o) k) (q .reach) (q .floor) (limitOf (stackIn w h n samples r o) q k) j)))) (eq-eqb k r e)
-      ∙ build-const (suc (2 * q .reach)) 0
-
   pub verdict-none : (q : Terms) → k ≡ r → verdict (stackIn w h n samples r o) q k ≡ 0
   unfolding verdict
   verdict-none q e = simp (eq-eqb k r e)
@@ -103,33 +102,18 @@ module _ (w h n : ℕ) (samples : List ℕ) (r : ℕ) (o : Options) (k : ℕ) wh
   -- ---- another frame
 
   module _ (apart : k ≡ r → ⊥) where
-    pub numbers-some : (q : Terms) → rowNumbers (stackIn w h n samples r o) q k
-        ≡ build (suc (2 * q .reach)) (λ (j : ℕ). length (rowRivals (frameCounts (stackIn w h n samples r o) k) (stepOf (stackIn w h n samples r o) k) (q .reach) (q .floor) (limitOf (stackIn w h n samples r o) q k) j))
-    unfolding rowNumbers
-    numbers-some q = ap (λ (t : Bool). build (suc (2 * q .reach)) (λ (j : ℕ). cond {A = ℕ} t 0 (length (rowRivals (frameCounts (stackIn w h n samples r o) k) (stepOf (stackIn w h n samples r o) k) (q .reach) (q .floor) (limitOf (stackIn w h n samples r o) q k) j)))) (ne-eqb k r apart)
-
     pub verdict-some : (q : Terms) → verdict (stackIn w h n samples r o) q k
         ≡ cond (ltb (frameCounts (stackIn w h n samples r o) k (stepOf (stackIn w h n samples r o) k) .compared) (q .floor)) 1 (cond (eqb (length (rivals (stackIn w h n samples r o) q k)) 1) 2 3)
     unfolding verdict
     verdict-some q = simp (ne-eqb k r apart)
 
     module _ {words : ℕ} (q : Framed w h n (o .percentile) (length samples) words) (among : r < n) (here : k < n) where
-      -- what packing the two asks
-      pub pack-ready : (j : ℕ) → j ≡ neighbour r k → (v : ℕ) → v ≡ words
-          → (w ≤ 8192) × (h ≤ 8192) × (o .percentile ≤ 100)
-          × ((j + 1) * (w * h) ≤ length samples) × ((k + 1) * (w * h) ≤ length samples)
-          × (stepWords w h ≤ v)
-      pack-ready j e v f =
-          let near : j < n = omega (arith, neighbour-among r k n among here) in
-          let first : j + 1 ≤ n = omega arith in
-          let second : k + 1 ≤ n = omega arith in (
-            q .wide,
-            q .high,
-            q .cut,
-            omega (arith, q .frames, mul-le-mul-right (w * h) first),
-            omega (arith, q .frames, mul-le-mul-right (w * h) second),
-            omega (arith, q .maps, need-two n (stepWords w h) (two-frames apart among here)),
-          )
+      -- what packing the two asks: samples of any frame, and room for four bitmaps
+      pub frame-there : (j : ℕ) → j < n → (j + 1) * (w * h) ≤ length samples
+      frame-there j l = let up : j + 1 ≤ n = omega arith in omega (arith, q .frames, mul-le-mul-right (w * h) up)
+
+      pub maps-fit : stepWords w h ≤ words
+      maps-fit = omega (arith, q .maps, need-two n (stepWords w h) (two-frames apart among here))
 
       -- what it gives
       module _ (v : List ℕ) (room : length v ≡ words) (j : ℕ) {v′ : List ℕ} (stored : v′ ≡ sets v 0 (fourFor j)) where

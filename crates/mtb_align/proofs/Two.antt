@@ -1,9 +1,10 @@
 -- Both bits of up to 32 samples in one number, and two such numbers as two words. Assumes nothing.
-use mathlib.Core.Path.{_≡_, refl, sym, ap, ap₂, _∙_}
+use mathlib.Core.Path.{_≡_, sym, ap, ap₂, _∙_}
 use mathlib.Core.List.{List}
-use Prim.Native.Nat.{ℕ, zero, suc, _+_, _-_, _*_, _/_, _%_, _^_, _≤_, _<_}
+use Prim.Native.Nat.{ℕ, _+_, _-_, _*_, _/_, _%_, _^_, _≤_, _<_}
 use native.Mathlib.Nat.{add-mul, mul-assoc, mul-comm, lt-of-lt-of-le}
 use native.Mathlib.Omega.{arith}
+use borrow.Author.Tests.{lt-ltb, le-ltb}
 use lib.Dec.{ltb}
 use lib.ListN.{getD}
 use lib.Pow.{pow-mono, shl-exact}
@@ -25,9 +26,22 @@ pub exclusion-lt : (c t v : ℕ) → exclusionBit c t v < 2
 unfolding exclusionBit
 exclusion-lt c t v = omega (arith, bit-le (ltb t (distance v c)))
 
-pub entry-is : (c t v a b : ℕ) → a ≡ bit (ltb c v) → b ≡ bit (ltb t (distance v c)) → a + b * 4294967296 ≡ entryOf c t v
+entry-is : (c t v a b : ℕ) → a ≡ bit (ltb c v) → b ≡ bit (ltb t (distance v c)) → a + b * 4294967296 ≡ entryOf c t v
 unfolding entryOf thresholdBit exclusionBit
 entry-is c t v a b p q = ap₂ (λ (x y : ℕ). x + y * 4294967296) p q
+
+-- the four runs of values: far below the cut, near it and not above, near it and above, far above
+pub entry-far-below : (c t v : ℕ) → v < c - t → 4294967296 ≡ entryOf c t v
+entry-far-below c t v h = entry-is c t v 0 1 (sym (ap bit (le-ltb c v (omega arith)))) (sym (ap bit (lt-ltb t (distance v c) (omega arith))))
+
+pub entry-near-below : (c t v : ℕ) → c - t ≤ v → v < c + 1 → 0 ≡ entryOf c t v
+entry-near-below c t v g h = entry-is c t v 0 0 (sym (ap bit (le-ltb c v (omega arith)))) (sym (ap bit (le-ltb t (distance v c) (omega arith))))
+
+pub entry-near-above : (c t v : ℕ) → c + 1 ≤ v → v < c + 1 + t → 1 ≡ entryOf c t v
+entry-near-above c t v g h = entry-is c t v 1 0 (sym (ap bit (lt-ltb c v (omega arith)))) (sym (ap bit (le-ltb t (distance v c) (omega arith))))
+
+pub entry-far-above : (c t v : ℕ) → c + 1 + t ≤ v → 4294967297 ≡ entryOf c t v
+entry-far-above c t v h = entry-is c t v 1 1 (sym (ap bit (lt-ltb c v (omega arith)))) (sym (ap bit (lt-ltb t (distance v c) (omega arith))))
 
 entry-lt : (c t v : ℕ) → entryOf c t v < 2 ^ 33
 unfolding entryOf

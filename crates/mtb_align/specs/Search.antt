@@ -6,7 +6,7 @@ use lib.ListN.{length, take, drop}
 use Rattle.definitions.specs.Geometry.{Shift}
 use Rattle.definitions.specs.Threshold.{cut}
 use Rattle.definitions.specs.Bitmap.{bitmapWords, packed}
-use Rattle.definitions.specs.Difference.{Bitmaps, Counts, bitmapsOf, bitmapsIn, counts}
+use Rattle.definitions.specs.Difference.{Counts, bitmapsOf, bitmapsIn, counts}
 use Rattle.definitions.specs.Align.{Options, Exposure}
 use Rattle.laws.specs.Bitmaps.{IsBitmap}
 use Rattle.mtb_align.specs.declared.align.Options as code

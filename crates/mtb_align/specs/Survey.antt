@@ -1,18 +1,14 @@
 -- The report's answer in document 01's terms, and what its inner functions compute of a stack.
-use Prim.Native.Nat.{ℕ, suc, _+_, _-_, _*_, _/_, _≤_}
+use Prim.Native.Nat.{ℕ, _+_, _-_, _*_, _/_, _≤_}
 use mathlib.Core.Path.{_≡_}
-use mathlib.Core.Bool.{cond}
 use mathlib.Core.List.{List}
-use lib.Dec.{eqb}
 use lib.IntN.{ℤ}
 use lib.ListN.{length, take}
-use Rattle.definitions.specs.Build.{build}
 use Rattle.definitions.specs.Geometry as geometry
-use Rattle.definitions.specs.Align.{Stack, stepOf, shifts, stepWords, stackNeed}
+use Rattle.definitions.specs.Align.{Stack, shifts, stepWords, stackNeed}
 use Rattle.definitions.specs.Refusals.{Answer, accepted}
-use Rattle.definitions.specs.Report.{Terms, frameCounts, limitOf}
+use Rattle.definitions.specs.Report.{Terms, verdicts, recordsNeeded, records, recordsBytes}
 use Rattle.laws.specs.Bands.{bandDisagreeing}
-use Rattle.laws.specs.Surveys.{rowRivals}
 use Rattle.mtb_align.specs.declared.report.Terms as code
 use Rattle.mtb_align.specs.declared.report.Summary.{Summary}
 use Rattle.mtb_align.specs.declared.report.ReportAnswer.{ReportAnswer}
@@ -54,10 +50,13 @@ pub record Placed (a : Stack) (list : List ℤ) : Type 0 where
   pub long : 2 * a .frames ≤ length list
   pub front : take (2 * a .frames) list ≡ geometry.listed (shifts a)
 
--- How many rivals each row of frame k's window has. The reference has none.
-unfoldable pub rowNumbers : Stack → Terms → ℕ → List ℕ
-rowNumbers a q k =
-    build (suc (2 * q .reach)) (λ (j : ℕ). cond (eqb k (a .reference)) 0 (length (rowRivals (frameCounts a k) (stepOf a k) (q .reach) (q .floor) (limitOf a q k) j)))
+-- What a survey found: the verdicts at the front of a list, how many records there are, and, where there was room for all, their
+-- bytes.
+pub record Found (a : Stack) (q : Terms) (judged kept : List ℕ) (needed : ℕ) : Type 0 where
+  pub long : a .frames ≤ length judged
+  pub judgements : take (a .frames) judged ≡ verdicts a q
+  pub number : needed ≡ recordsNeeded a q
+  pub bytes : 20 * needed ≤ length kept → take (20 * needed) kept ≡ recordsBytes (records a q)
 
 -- ---- a sample of a count
 

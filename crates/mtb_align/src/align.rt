@@ -7,6 +7,7 @@ use super::error::Outcome;
 use super::error::Size;
 use super::error::side_over;
 use super::geometry::Shift;
+use super::geometry::smaller;
 use super::shrink::Shrink;
 use super::shrink::halve;
 use super::shrink::halve_within;
@@ -16,7 +17,7 @@ ghost use Rattle.laws.specs.Steps.{Within};
 ghost use mathlib.Core.Path.{_≡_};
 ghost use mathlib.Core.Bool.{cond};
 ghost use mathlib.Core.List.{[], _∷_, _++_, map};
-ghost use Prim.Native.Nat.{suc, _+_, _-_, _*_, _≤_, _<_, min, max};
+ghost use Prim.Native.Nat.{suc, _+_, _-_, _*_, _≤_, _<_, max};
 ghost use lib.ListN.{length, getD, drop};
 ghost use lib.Dec.{ltb};
 ghost use lib.Seq.{sets};
@@ -27,7 +28,7 @@ ghost use Rattle.definitions.specs.Bitmap.{bitmapWords};
 ghost use Rattle.definitions.specs.Align.{log2, levels, tried, refine, stepAt, comparisonsAt, costOf, step, comparisons, stackOf, shiftOf, stepBytes, stepWords, stackNeed};
 ghost use Rattle.definitions.specs.Align as stacks;
 ghost use Rattle.definitions.specs.Refusals.{accepted, refused, answer, after, FreeUpTo, Scratch, sideOver, unequal, pairDiffers, pyramidChecks, stepChecks, framesChecks, stackScratchChecks, stackChecks};
-ghost use Rattle.mtb_align.specs.Answers.{outcome, modeOf, shiftIn, countsIn, steppedIn, stepAnswer, Stepped};
+ghost use Rattle.mtb_align.specs.Answers.{outcome, modeOf, shiftIn, countsIn, stepAnswer, Stepped};
 ghost use Rattle.mtb_align.specs.declared.shrink.Shrink.the-variants.{Average, Subsample};
 ghost use Rattle.mtb_align.specs.Levelled.{Levelled};
 ghost use Rattle.mtb_align.specs.Search.{TwoPairs, pairCounts, costIn, costBetween, exposureOf, fourOf, optionsIn};
@@ -39,12 +40,6 @@ fn log_of(n: usize) -> usize
     ensures { λ r. ⌜ r ≡ log2 n ⌝ }
 {
     (63 - usize::leading_zeros(n)) as usize
-}
-
-fn smaller(a: usize, b: usize) -> usize
-    ensures { λ r. ⌜ r ≡ min a b ⌝ }
-{
-    if a < b { a } else { b }
 }
 
 fn larger(a: usize, b: usize) -> usize

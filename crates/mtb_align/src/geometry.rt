@@ -165,7 +165,7 @@ pub(crate) fn copy_run(samples: &[u8], from: usize, out: &mut [u8], at: usize, n
     }
 }
 
-fn smaller(a: usize, b: usize) -> usize
+pub(crate) fn smaller(a: usize, b: usize) -> usize
     ensures { λ r. ⌜ r ≡ min a b ⌝ }
 {
     if a < b {
@@ -175,7 +175,7 @@ fn smaller(a: usize, b: usize) -> usize
 }
 
 // `a` less `b`, not below 0.
-fn without(a: usize, b: usize) -> usize
+pub(crate) fn without(a: usize, b: usize) -> usize
     ensures { λ r. ⌜ r ≡ a - b ⌝ }
 {
     if a < b {

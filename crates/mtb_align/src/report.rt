@@ -16,33 +16,33 @@ use super::geometry::Rect;
 use super::geometry::Shift;
 use super::geometry::above;
 use super::geometry::below;
-use super::geometry::clear_run;
 use super::geometry::common_crop;
 use super::geometry::copy_run;
 ghost use mathlib.Core.Path.{_≡_};
-ghost use mathlib.Core.Bool.{cond};
+ghost use mathlib.Core.Bool.{cond, false};
 ghost use mathlib.Core.List.{[], _∷_, _++_};
-ghost use Prim.Native.Nat.{suc, _+_, _*_, _%_, _≤_, _<_};
+ghost use Prim.Native.Nat.{_+_, _*_, _%_, _≤_, _<_};
 ghost use lib.Dec.{ltb, eqb};
 ghost use lib.IntN.{pos, _-ℤ_};
 ghost use lib.ListN.{length, getD, take, drop};
 ghost use lib.Seq.{sets};
-ghost use Rattle.definitions.specs.Build.{build, joined};
+ghost use Rattle.definitions.specs.Build.{keepIf};
 ghost use Rattle.definitions.specs.Geometry.{origin, listed, shiftsOf, commonCrop};
 ghost use Rattle.definitions.specs.Align.{stackOf, neighbour, stepOf, stepBytes, stepWords, stackNeed};
 ghost use Rattle.definitions.specs.Align as stacks;
 ghost use Rattle.definitions.specs.Refusals.{answer, after, FreeUpTo, Scratch, surveyChecks, reportChecks};
-ghost use Rattle.definitions.specs.Report.{isRival, survey, frameCounts, rivals, bytes32, twosComplement, recordBytes, recordsBytes, recordsNeeded, frameRecords, verdict, reportCrop};
+ghost use Rattle.definitions.specs.Report.{isRival, survey, rivals, bytes32, twosComplement, recordBytes, recordsBytes, recordsNeeded, frameRecords, verdict, reportCrop};
 ghost use Rattle.definitions.specs.Report as reports;
 ghost use Rattle.definitions.specs.Bitmap.{total};
 ghost use Rattle.definitions.specs.Difference.{bitmapsIn, counts};
 ghost use Rattle.laws.specs.Bands.{band};
 ghost use Rattle.laws.specs.Steps.{Within};
-ghost use Rattle.laws.specs.Surveys.{windowAt, rowRivals, bytesOf};
+ghost use Rattle.laws.specs.Surveys.{windowAt, rowRivals};
+ghost use Rattle.laws.specs.Kept.{keptIn, Kept, recordsOf};
 ghost use Rattle.mtb_align.specs.Answers.{outcome, shiftIn, countsIn, rectIn};
 ghost use Rattle.mtb_align.specs.Search.{mapAt, TwoPairs, pairCounts, exposureOf, fourOf, optionsIn};
 ghost use Rattle.mtb_align.specs.Stack.{stackIn, frameIn, Ready};
-ghost use Rattle.mtb_align.specs.Survey.{termsIn, Reported, reportAnswer, Framed, Placed, rowNumbers, sampleOf};
+ghost use Rattle.mtb_align.specs.Survey.{termsIn, Reported, reportAnswer, Framed, Placed, Found, sampleOf};
 
 // How far from a step its rivals are sought, how many pixels a rival compares at least, and in how many more than the step it may
 // disagree.
@@ -84,16 +84,6 @@ fn in_window(centre: Shift, reach: usize, i: usize, j: usize) -> Shift
         x: centre.x - reach as i32 + i as i32,
         y: centre.y - reach as i32 + j as i32,
     }
-}
-
-// 1 for a rival.
-fn one_if_rival(counts: Counts, floor: u64, limit: u64) -> usize
-    ensures { λ r. ⌜ r ≡ cond (isRival (λ _. countsIn counts) floor limit origin) 1 0 ⌝ }
-{
-    if is_rival(counts, floor, limit) {
-        return 1;
-    }
-    0
 }
 
 // In how many pixels `rows` rows of the reference from row `up` on and of the target from row `down` on disagree, the target moved by
@@ -151,47 +141,22 @@ fn sampled(words: &[u64], width: usize, height: usize, shift: Shift) -> u64
     )
 }
 
-// 1 for a shift that is a rival.
-fn rival_at(
+// Whether a sample shows that a shift is no rival. None is taken where it is likely one, as then it would be for nothing.
+fn ruled_out(
     words: &[u64],
     width: usize,
     height: usize,
     shift: Shift,
-    floor: u64,
     limit: u64,
-) -> usize
+    likely: bool,
+) -> bool
     requires { ⌜ TwoPairs (now words) width height ⌝ }
-    ensures { λ r. ⌜ r ≡ cond (isRival (pairCounts (now (words .entry)) width height) floor limit (shiftIn shift)) 1 0 ⌝ }
+    ensures { λ r. ⌜ r ≡ cond likely false (ltb limit (sampleOf (now (words .entry)) width height (shiftIn shift))) ⌝ }
 {
-    if limit < sampled(words, width, height, shift) {
-        return 0;
+    if likely {
+        return false;
     }
-    one_if_rival(counts_at(words, width, height, shift), floor, limit)
-}
-
-// How many rivals row j of the window has.
-fn row_rivals(
-    words: &[u64],
-    width: usize,
-    height: usize,
-    centre: Shift,
-    reach: usize,
-    floor: u64,
-    limit: u64,
-    j: usize,
-) -> usize
-    requires { ⌜ TwoPairs (now words) width height × Within 65536 (shiftIn centre) × (reach ≤ 64) × (j ≤ 2 * reach) ⌝ }
-    ensures { λ r. ⌜ r ≡ length (rowRivals (pairCounts (now (words .entry)) width height) (shiftIn centre) reach floor limit j) ⌝ }
-{
-    let side = 2 * reach + 1;
-    let mut number: usize = 0;
-    let mut i: usize = 0;
-    while i < side {
-        let shift = in_window(centre, reach, i, j);
-        number += rival_at(words, width, height, shift, floor, limit);
-        i += 1;
-    }
-    number
+    limit < sampled(words, width, height, shift)
 }
 
 // Whether the reference's exclusion bitmap has fewer pixels than the floor asks for, so that no shift compares as many.
@@ -202,38 +167,6 @@ fn too_few(words: &[u64], width: usize, height: usize, floor: u64) -> bool
     let n = height * words_per_row(width);
     let end = 2 * n;
     ones_in(&words[n..end]) < floor
-}
-
-// How many rivals there are around a centre; each row's number goes into `found`, from `at` on.
-fn survey(
-    words: &[u64],
-    width: usize,
-    height: usize,
-    centre: Shift,
-    reach: usize,
-    floor: u64,
-    limit: u64,
-    found: &mut [u8],
-    at: usize,
-) -> usize
-    requires { ⌜ TwoPairs (now words) width height × Within 65536 (shiftIn centre) × (reach ≤ 64) × (at + suc (2 * reach) ≤ length (now found)) ⌝ }
-    ensures { λ r. ⌜ r ≡ length (survey (pairCounts (now (words .entry)) width height) (shiftIn centre) reach floor limit) ⌝ }
-    ensures { λ _. ⌜ now (found .exit) ≡ sets (now (found .entry)) at (build (suc (2 * reach)) (λ j. length (rowRivals (pairCounts (now (words .entry)) width height) (shiftIn centre) reach floor limit j))) ⌝ }
-{
-    let rows = 2 * reach + 1;
-    if too_few(words, width, height, floor) {
-        clear_run(found, at, rows);
-        return 0;
-    }
-    let mut number: usize = 0;
-    let mut j: usize = 0;
-    while j < rows {
-        let here = row_rivals(words, width, height, centre, reach, floor, limit, j);
-        found[at + j] = here as u8;
-        number += here;
-        j += 1;
-    }
-    number
 }
 
 // ---- records
@@ -272,33 +205,65 @@ fn put_record(space: &mut [u8], at: usize, frame: usize, shift: Shift, counts: C
     put_number(space, at + 16, counts.compared as u32);
 }
 
-// The record of a shift that is a rival; the answer is where the next one goes.
-fn put_rival(
+// A record behind `number` others, if there is room.
+fn keep_record(space: &mut [u8], number: usize, frame: usize, shift: Shift, counts: Counts)
+    requires { ⌜ (number ≤ 1000000) × (frame < 16) × (counts .disagreeing < 4294967296) × (counts .compared < 4294967296) ⌝ }
+    ensures { λ _. ⌜ now (space .exit) ≡ keptIn (now (space .entry)) number (recordBytes (record { frame = frame; shift = shiftIn shift; counts = countsIn counts })) ⌝ }
+{
+    let at = 20 * number;
+    if at + 20 <= space.len() {
+        put_record(space, at, frame, shift, counts);
+    }
+}
+
+// The record of a shift that is a rival, behind `number` others, if there is room; the answer is how many there are then.
+fn keep_rival(
     space: &mut [u8],
-    at: usize,
+    number: usize,
     frame: usize,
     shift: Shift,
     counts: Counts,
     floor: u64,
     limit: u64,
 ) -> usize
-    requires { ⌜
-        (at + 20 * cond (isRival (λ _. countsIn counts) floor limit origin) 1 0 ≤ length (now space))
-        × (frame < 16) × (counts .disagreeing < 4294967296) × (counts .compared < 4294967296)
-        ⌝ }
-    ensures { λ r. ⌜ r ≡ at + 20 * cond (isRival (λ _. countsIn counts) floor limit origin) 1 0 ⌝ }
-    ensures { λ _. ⌜ now (space .exit) ≡ sets (now (space .entry)) at (cond (isRival (λ _. countsIn counts) floor limit origin) (recordBytes (record { frame = frame; shift = shiftIn shift; counts = countsIn counts })) []) ⌝ }
+    requires { ⌜ (number ≤ 1000000) × (frame < 16) × (counts .disagreeing < 4294967296) × (counts .compared < 4294967296) ⌝ }
+    ensures { λ r. ⌜ Kept (now (space .entry)) number (cond (isRival (λ _. countsIn counts) floor limit origin) (record { frame = frame; shift = shiftIn shift; counts = countsIn counts } ∷ []) []) (now (space .exit)) r ⌝ }
 {
     if is_rival(counts, floor, limit) {
-        put_record(space, at, frame, shift, counts);
-        return at + 20;
+        keep_record(space, number, frame, shift, counts);
+        return number + 1;
     }
-    at
+    number
 }
 
-// The records of the rivals in row j of the window, which has `number` of them, from `at` on; the answer is where the next one
-// goes. A row without rivals is not counted again.
-fn put_row(
+// ---- a survey of two packed pairs: the records of all rivals go into a space as far as there is room, behind `number` others, and
+// each answer is how many there are then
+
+// One shift.
+fn survey_shift(
+    words: &[u64],
+    width: usize,
+    height: usize,
+    shift: Shift,
+    floor: u64,
+    limit: u64,
+    likely: bool,
+    frame: usize,
+    space: &mut [u8],
+    number: usize,
+) -> usize
+    requires { ⌜ TwoPairs (now words) width height × (frame < 16) × (number ≤ 1000000) ⌝ }
+    ensures { λ r. ⌜ Kept (now (space .entry)) number (recordsOf (pairCounts (now (words .entry)) width height) frame (keepIf (isRival (pairCounts (now (words .entry)) width height) floor limit) (shiftIn shift ∷ []))) (now (space .exit)) r ⌝ }
+{
+    if ruled_out(words, width, height, shift, limit, likely) {
+        return number;
+    }
+    let counts = counts_at(words, width, height, shift);
+    keep_rival(space, number, frame, shift, counts, floor, limit)
+}
+
+// Row j of the window. Next to a rival most shifts are rivals too.
+fn survey_row(
     words: &[u64],
     width: usize,
     height: usize,
@@ -307,34 +272,40 @@ fn put_row(
     floor: u64,
     limit: u64,
     j: usize,
-    number: u8,
     frame: usize,
     space: &mut [u8],
-    at: usize,
+    number: usize,
 ) -> usize
-    requires { ⌜ TwoPairs (now words) width height × Within 65536 (shiftIn centre) × (reach ≤ 64) × (j ≤ 2 * reach) × (frame < 16) ⌝ }
-    requires { ⌜ number ≡ length (rowRivals (pairCounts (now words) width height) (shiftIn centre) reach floor limit j) ⌝ }
-    requires { ⌜ at + 20 * length (rowRivals (pairCounts (now words) width height) (shiftIn centre) reach floor limit j) ≤ length (now space) ⌝ }
-    ensures { λ r. ⌜ r ≡ at + 20 * length (rowRivals (pairCounts (now (words .entry)) width height) (shiftIn centre) reach floor limit j) ⌝ }
-    ensures { λ _. ⌜ now (space .exit) ≡ sets (now (space .entry)) at (bytesOf (pairCounts (now (words .entry)) width height) frame (rowRivals (pairCounts (now (words .entry)) width height) (shiftIn centre) reach floor limit j)) ⌝ }
+    requires { ⌜ TwoPairs (now words) width height × Within 65536 (shiftIn centre) × (reach ≤ 64) × (j ≤ 2 * reach) × (frame < 16) × (number ≤ 500000) ⌝ }
+    ensures { λ r. ⌜ Kept (now (space .entry)) number (recordsOf (pairCounts (now (words .entry)) width height) frame (rowRivals (pairCounts (now (words .entry)) width height) (shiftIn centre) reach floor limit j)) (now (space .exit)) r ⌝ }
 {
-    if number == 0 {
-        return at;
-    }
     let side = 2 * reach + 1;
-    let mut next = at;
+    let mut next = number;
+    let mut likely = false;
     let mut i: usize = 0;
     while i < side {
         let shift = in_window(centre, reach, i, j);
-        let counts = counts_at(words, width, height, shift);
-        next = put_rival(space, next, frame, shift, counts, floor, limit);
+        let after = survey_shift(
+            words,
+            width,
+            height,
+            shift,
+            floor,
+            limit,
+            likely,
+            frame,
+            space,
+            next,
+        );
+        likely = next < after;
+        next = after;
         i += 1;
     }
     next
 }
 
-// The records of all rivals around a centre, row by row; `found` has from `from` on how many each row has.
-fn put_rivals(
+// The whole window.
+fn survey(
     words: &[u64],
     width: usize,
     height: usize,
@@ -342,23 +313,21 @@ fn put_rivals(
     reach: usize,
     floor: u64,
     limit: u64,
-    found: &[u8],
-    from: usize,
     frame: usize,
     space: &mut [u8],
-    at: usize,
+    number: usize,
 ) -> usize
-    requires { ⌜ TwoPairs (now words) width height × Within 65536 (shiftIn centre) × (reach ≤ 64) × (frame < 16) ⌝ }
-    requires { ⌜ (from + suc (2 * reach) ≤ length (now found)) × (take (suc (2 * reach)) (drop from (now found)) ≡ build (suc (2 * reach)) (λ j. length (rowRivals (pairCounts (now words) width height) (shiftIn centre) reach floor limit j))) ⌝ }
-    requires { ⌜ at + 20 * length (survey (pairCounts (now words) width height) (shiftIn centre) reach floor limit) ≤ length (now space) ⌝ }
-    ensures { λ r. ⌜ r ≡ at + 20 * length (survey (pairCounts (now (words .entry)) width height) (shiftIn centre) reach floor limit) ⌝ }
-    ensures { λ _. ⌜ now (space .exit) ≡ sets (now (space .entry)) at (bytesOf (pairCounts (now (words .entry)) width height) frame (survey (pairCounts (now (words .entry)) width height) (shiftIn centre) reach floor limit)) ⌝ }
+    requires { ⌜ TwoPairs (now words) width height × Within 65536 (shiftIn centre) × (reach ≤ 64) × (frame < 16) × (number ≤ 300000) ⌝ }
+    ensures { λ r. ⌜ Kept (now (space .entry)) number (recordsOf (pairCounts (now (words .entry)) width height) frame (survey (pairCounts (now (words .entry)) width height) (shiftIn centre) reach floor limit)) (now (space .exit)) r ⌝ }
 {
-    let side = 2 * reach + 1;
-    let mut next = at;
+    if too_few(words, width, height, floor) {
+        return number;
+    }
+    let rows = 2 * reach + 1;
+    let mut next = number;
     let mut j: usize = 0;
-    while j < side {
-        next = put_row(
+    while j < rows {
+        next = survey_row(
             words,
             width,
             height,
@@ -367,7 +336,6 @@ fn put_rivals(
             floor,
             limit,
             j,
-            found[from + j],
             frame,
             space,
             next,
@@ -462,10 +430,10 @@ fn sight(
     step_between(shifts, near, k)
 }
 
-// How many pixels a frame's step compares, and how many rivals it has.
+// How many pixels a frame's step compares, and how many records there are once it was surveyed.
 struct Surveyed {
     compared: u64,
-    rivals: usize,
+    number: usize,
 }
 
 // The survey of one pair around its step.
@@ -475,18 +443,18 @@ fn survey_pair(
     height: usize,
     step: Shift,
     terms: Terms,
-    found: &mut [u8],
-    at: usize,
+    frame: usize,
+    space: &mut [u8],
+    number: usize,
 ) -> Surveyed
-    requires { ⌜ TwoPairs (now words) width height × Within 65536 (shiftIn step) × (terms .reach ≤ 64) × (at + suc (2 * terms .reach) ≤ length (now found)) ⌝ }
+    requires { ⌜ TwoPairs (now words) width height × Within 65536 (shiftIn step) × (terms .reach ≤ 64) × (frame < 16) × (number ≤ 300000) ⌝ }
     ensures { λ r. ⌜
         (r .compared ≡ pairCounts (now (words .entry)) width height (shiftIn step) .compared)
-        × (r .rivals ≡ length (survey (pairCounts (now (words .entry)) width height) (shiftIn step) (terms .reach) (terms .floor) (pairCounts (now (words .entry)) width height (shiftIn step) .disagreeing + terms .margin)))
+        × Kept (now (space .entry)) number (recordsOf (pairCounts (now (words .entry)) width height) frame (survey (pairCounts (now (words .entry)) width height) (shiftIn step) (terms .reach) (terms .floor) (pairCounts (now (words .entry)) width height (shiftIn step) .disagreeing + terms .margin))) (now (space .exit)) (r .number)
         ⌝ }
-    ensures { λ _. ⌜ now (found .exit) ≡ sets (now (found .entry)) at (build (suc (2 * terms .reach)) (λ j. length (rowRivals (pairCounts (now (words .entry)) width height) (shiftIn step) (terms .reach) (terms .floor) (pairCounts (now (words .entry)) width height (shiftIn step) .disagreeing + terms .margin) j))) ⌝ }
 {
     let counts = counts_at(words, width, height, step);
-    let rivals = survey(
+    let after = survey(
         words,
         width,
         height,
@@ -494,29 +462,30 @@ fn survey_pair(
         terms.reach as usize,
         terms.floor as u64,
         counts.disagreeing + terms.margin as u64,
-        found,
-        at,
+        frame,
+        space,
+        number,
     );
     Surveyed {
         compared: counts.compared,
-        rivals,
+        number: after,
     }
 }
 
-// The verdict on a frame that is not the reference.
-fn verdict_of(surveyed: Surveyed, floor: u64) -> u8
-    ensures { λ r. ⌜ r ≡ cond (ltb (surveyed .compared) floor) 1 (cond (eqb (surveyed .rivals) 1) 2 3) ⌝ }
+// The verdict on a frame that is not the reference, by the pixels that its step compares and the number of its rivals.
+fn verdict_of(compared: u64, rivals: usize, floor: u64) -> u8
+    ensures { λ r. ⌜ r ≡ cond (ltb compared floor) 1 (cond (eqb rivals 1) 2 3) ⌝ }
 {
-    if surveyed.compared < floor {
+    if compared < floor {
         return 1;
     }
-    if surveyed.rivals == 1 {
+    if rivals == 1 {
         return 2;
     }
     3
 }
 
-// How many rivals frame k has; each row's number goes into `found`, the verdict into `judged`.
+// The survey of frame k; the verdict goes into `judged`.
 fn survey_frame(
     samples: &[u8],
     width: usize,
@@ -527,22 +496,20 @@ fn survey_frame(
     options: Options,
     terms: Terms,
     shifts: &[i32],
-    found: &mut [u8],
     judged: &mut [u8],
+    space: &mut [u8],
+    number: usize,
     words: &mut [u64],
 ) -> usize
     requires { ⌜ (reference < n) × (k < n) × (terms .reach ≤ 64) × Framed width height n (options .percentile) (length (now samples)) (length (now words)) ⌝ }
-    requires { ⌜ Placed (stackIn width height n (now samples) reference options) (now shifts) × (n * suc (2 * terms .reach) ≤ length (now found)) × (n ≤ length (now judged)) ⌝ }
-    ensures { λ r. ⌜ r ≡ length (rivals (stackIn width height n (now (samples .entry)) reference options) (termsIn terms) k) ⌝ }
-    ensures { λ _. ⌜ now (found .exit) ≡ sets (now (found .entry)) (k * suc (2 * terms .reach)) (rowNumbers (stackIn width height n (now (samples .entry)) reference options) (termsIn terms) k) ⌝ }
+    requires { ⌜ Placed (stackIn width height n (now samples) reference options) (now shifts) × (n ≤ length (now judged)) × (number ≤ 300000) ⌝ }
+    ensures { λ r. ⌜ Kept (now (space .entry)) number (frameRecords (stackIn width height n (now (samples .entry)) reference options) (termsIn terms) k) (now (space .exit)) r ⌝ }
     ensures { λ _. ⌜ now (judged .exit) ≡ sets (now (judged .entry)) k (verdict (stackIn width height n (now (samples .entry)) reference options) (termsIn terms) k ∷ []) ⌝ }
     ensures { λ _. ⌜ FreeUpTo (stackNeed n (stepWords width height)) (now (words .entry)) (now (words .exit)) ⌝ }
 {
-    let side = 2 * terms.reach as usize + 1;
     if k == reference {
-        clear_run(found, k * side, side);
         judged[k] = 0;
-        return 0;
+        return number;
     }
     let step = sight(
         samples,
@@ -556,13 +523,13 @@ fn survey_frame(
         words,
     );
     let end = 4 * (height * words_per_row(width));
-    let surveyed = survey_pair(&words[0..end], width, height, step, terms, found, k * side);
-    let number = surveyed.rivals;
-    judged[k] = verdict_of(surveyed, terms.floor as u64);
-    number
+    let surveyed = survey_pair(&words[0..end], width, height, step, terms, k, space, number);
+    let after = surveyed.number;
+    judged[k] = verdict_of(surveyed.compared, after - number, terms.floor as u64);
+    after
 }
 
-// How many rivals all frames have.
+// The survey of all frames, from the start of the space on.
 fn survey_frames(
     samples: &[u8],
     width: usize,
@@ -572,21 +539,20 @@ fn survey_frames(
     options: Options,
     terms: Terms,
     shifts: &[i32],
-    found: &mut [u8],
     judged: &mut [u8],
+    space: &mut [u8],
     words: &mut [u64],
 ) -> usize
     requires { ⌜ (reference < n) × (terms .reach ≤ 64) × Framed width height n (options .percentile) (length (now samples)) (length (now words)) ⌝ }
-    requires { ⌜ Placed (stackIn width height n (now samples) reference options) (now shifts) × (n * suc (2 * terms .reach) ≤ length (now found)) × (n ≤ length (now judged)) ⌝ }
-    ensures { λ r. ⌜ r ≡ recordsNeeded (stackIn width height n (now (samples .entry)) reference options) (termsIn terms) ⌝ }
-    ensures { λ _. ⌜ now (found .exit) ≡ sets (now (found .entry)) 0 (joined n (rowNumbers (stackIn width height n (now (samples .entry)) reference options) (termsIn terms))) ⌝ }
+    requires { ⌜ Placed (stackIn width height n (now samples) reference options) (now shifts) × (n ≤ length (now judged)) ⌝ }
+    ensures { λ r. ⌜ Kept (now (space .entry)) 0 (reports.records (stackIn width height n (now (samples .entry)) reference options) (termsIn terms)) (now (space .exit)) r ⌝ }
     ensures { λ _. ⌜ now (judged .exit) ≡ sets (now (judged .entry)) 0 (reports.verdicts (stackIn width height n (now (samples .entry)) reference options) (termsIn terms)) ⌝ }
     ensures { λ _. ⌜ FreeUpTo (stackNeed n (stepWords width height)) (now (words .entry)) (now (words .exit)) ⌝ }
 {
-    let mut needed: usize = 0;
+    let mut number: usize = 0;
     let mut k: usize = 0;
     while k < n {
-        needed += survey_frame(
+        number = survey_frame(
             samples,
             width,
             height,
@@ -596,146 +562,14 @@ fn survey_frames(
             options,
             terms,
             shifts,
-            found,
             judged,
-            words,
-        );
-        k += 1;
-    }
-    needed
-}
-
-// The records of one pair around its step, from `at` on; the answer is where the next one goes.
-fn put_pair(
-    words: &[u64],
-    width: usize,
-    height: usize,
-    step: Shift,
-    terms: Terms,
-    found: &[u8],
-    from: usize,
-    frame: usize,
-    space: &mut [u8],
-    at: usize,
-) -> usize
-    requires { ⌜ TwoPairs (now words) width height × Within 65536 (shiftIn step) × (terms .reach ≤ 64) × (frame < 16) ⌝ }
-    requires { ⌜ (from + suc (2 * terms .reach) ≤ length (now found)) × (take (suc (2 * terms .reach)) (drop from (now found)) ≡ build (suc (2 * terms .reach)) (λ j. length (rowRivals (pairCounts (now words) width height) (shiftIn step) (terms .reach) (terms .floor) (pairCounts (now words) width height (shiftIn step) .disagreeing + terms .margin) j))) ⌝ }
-    requires { ⌜ at + 20 * length (survey (pairCounts (now words) width height) (shiftIn step) (terms .reach) (terms .floor) (pairCounts (now words) width height (shiftIn step) .disagreeing + terms .margin)) ≤ length (now space) ⌝ }
-    ensures { λ r. ⌜ r ≡ at + 20 * length (survey (pairCounts (now (words .entry)) width height) (shiftIn step) (terms .reach) (terms .floor) (pairCounts (now (words .entry)) width height (shiftIn step) .disagreeing + terms .margin)) ⌝ }
-    ensures { λ _. ⌜ now (space .exit) ≡ sets (now (space .entry)) at (bytesOf (pairCounts (now (words .entry)) width height) frame (survey (pairCounts (now (words .entry)) width height) (shiftIn step) (terms .reach) (terms .floor) (pairCounts (now (words .entry)) width height (shiftIn step) .disagreeing + terms .margin))) ⌝ }
-{
-    let counts = counts_at(words, width, height, step);
-    put_rivals(
-        words,
-        width,
-        height,
-        step,
-        terms.reach as usize,
-        terms.floor as u64,
-        counts.disagreeing + terms.margin as u64,
-        found,
-        from,
-        frame,
-        space,
-        at,
-    )
-}
-
-// The records of frame k, from `at` on; the answer is where the next one goes.
-fn put_frame(
-    samples: &[u8],
-    width: usize,
-    height: usize,
-    reference: usize,
-    n: usize,
-    k: usize,
-    options: Options,
-    terms: Terms,
-    shifts: &[i32],
-    found: &[u8],
-    space: &mut [u8],
-    at: usize,
-    words: &mut [u64],
-) -> usize
-    requires { ⌜ (reference < n) × (k < n) × (terms .reach ≤ 64) × Framed width height n (options .percentile) (length (now samples)) (length (now words)) ⌝ }
-    requires { ⌜ Placed (stackIn width height n (now samples) reference options) (now shifts) ⌝ }
-    requires { ⌜ (k * suc (2 * terms .reach) + suc (2 * terms .reach) ≤ length (now found)) × (take (suc (2 * terms .reach)) (drop (k * suc (2 * terms .reach)) (now found)) ≡ rowNumbers (stackIn width height n (now samples) reference options) (termsIn terms) k) ⌝ }
-    requires { ⌜ at + 20 * length (rivals (stackIn width height n (now samples) reference options) (termsIn terms) k) ≤ length (now space) ⌝ }
-    ensures { λ r. ⌜ r ≡ at + 20 * length (rivals (stackIn width height n (now (samples .entry)) reference options) (termsIn terms) k) ⌝ }
-    ensures { λ _. ⌜ now (space .exit) ≡ sets (now (space .entry)) at (recordsBytes (frameRecords (stackIn width height n (now (samples .entry)) reference options) (termsIn terms) k)) ⌝ }
-    ensures { λ _. ⌜ FreeUpTo (stackNeed n (stepWords width height)) (now (words .entry)) (now (words .exit)) ⌝ }
-{
-    if k == reference {
-        return at;
-    }
-    let step = sight(
-        samples,
-        width,
-        height,
-        reference,
-        n,
-        k,
-        options,
-        shifts,
-        words,
-    );
-    let end = 4 * (height * words_per_row(width));
-    let side = 2 * terms.reach as usize + 1;
-    put_pair(
-        &words[0..end],
-        width,
-        height,
-        step,
-        terms,
-        found,
-        k * side,
-        k,
-        space,
-        at,
-    )
-}
-
-// The records of all frames, from the start of the space on.
-fn put_frames(
-    samples: &[u8],
-    width: usize,
-    height: usize,
-    reference: usize,
-    n: usize,
-    options: Options,
-    terms: Terms,
-    shifts: &[i32],
-    found: &[u8],
-    space: &mut [u8],
-    words: &mut [u64],
-)
-    requires { ⌜ (reference < n) × (terms .reach ≤ 64) × Framed width height n (options .percentile) (length (now samples)) (length (now words)) ⌝ }
-    requires { ⌜ Placed (stackIn width height n (now samples) reference options) (now shifts) ⌝ }
-    requires { ⌜ (n * suc (2 * terms .reach) ≤ length (now found)) × (take (n * suc (2 * terms .reach)) (now found) ≡ joined n (rowNumbers (stackIn width height n (now samples) reference options) (termsIn terms))) ⌝ }
-    requires { ⌜ 20 * recordsNeeded (stackIn width height n (now samples) reference options) (termsIn terms) ≤ length (now space) ⌝ }
-    ensures { λ _. ⌜ now (space .exit) ≡ sets (now (space .entry)) 0 (recordsBytes (reports.records (stackIn width height n (now (samples .entry)) reference options) (termsIn terms))) ⌝ }
-    ensures { λ _. ⌜ FreeUpTo (stackNeed n (stepWords width height)) (now (words .entry)) (now (words .exit)) ⌝ }
-{
-    let mut next: usize = 0;
-    let mut k: usize = 0;
-    while k < n {
-        next = put_frame(
-            samples,
-            width,
-            height,
-            reference,
-            n,
-            k,
-            options,
-            terms,
-            shifts,
-            found,
             space,
-            next,
+            number,
             words,
         );
         k += 1;
     }
+    number
 }
 
 // ---- the report
@@ -805,6 +639,51 @@ fn crop_of(shifts: &[i32], width: usize, height: usize) -> Rect
     }
 }
 
+// The verdicts and the records, as they were kept or, where there were too many records to keep, by a second survey.
+fn put_found(
+    samples: &[u8],
+    width: usize,
+    height: usize,
+    reference: usize,
+    n: usize,
+    options: Options,
+    terms: Terms,
+    placed: &[i32],
+    judged: &[u8],
+    kept: &[u8],
+    needed: usize,
+    verdicts: &mut [u8],
+    records: &mut [u8],
+    words: &mut [u64],
+)
+    requires { ⌜ (reference < n) × (terms .reach ≤ 64) × Framed width height n (options .percentile) (length (now samples)) (length (now words)) ⌝ }
+    requires { ⌜ Placed (stackIn width height n (now samples) reference options) (now placed) × Found (stackIn width height n (now samples) reference options) (termsIn terms) (now judged) (now kept) needed ⌝ }
+    requires { ⌜ (length (now verdicts) ≡ n) × (20 * needed ≤ length (now records)) ⌝ }
+    ensures { λ _. ⌜ now (verdicts .exit) ≡ reports.verdicts (stackIn width height n (now (samples .entry)) reference options) (termsIn terms) ⌝ }
+    ensures { λ _. ⌜ now (records .exit) ≡ sets (now (records .entry)) 0 (recordsBytes (reports.records (stackIn width height n (now (samples .entry)) reference options) (termsIn terms))) ⌝ }
+    ensures { λ _. ⌜ FreeUpTo (stackNeed n (stepWords width height)) (now (words .entry)) (now (words .exit)) ⌝ }
+{
+    let bytes = 20 * needed;
+    if bytes <= kept.len() {
+        copy_run(judged, 0, verdicts, 0, n);
+        copy_run(kept, 0, records, 0, bytes);
+        return;
+    }
+    survey_frames(
+        samples,
+        width,
+        height,
+        reference,
+        n,
+        options,
+        terms,
+        placed,
+        verdicts,
+        records,
+        words,
+    );
+}
+
 // The shifts, the verdicts and the records go to the caller if the records fit, and nothing does if not.
 fn write_report(
     samples: &[u8],
@@ -815,8 +694,8 @@ fn write_report(
     options: Options,
     terms: Terms,
     placed: &[i32],
-    found: &[u8],
     judged: &[u8],
+    kept: &[u8],
     needed: usize,
     shifts: &mut [i32],
     verdicts: &mut [u8],
@@ -824,10 +703,8 @@ fn write_report(
     words: &mut [u64],
 ) -> ReportAnswer
     requires { ⌜ (reference < n) × (terms .reach ≤ 64) × Framed width height n (options .percentile) (length (now samples)) (length (now words)) ⌝ }
-    requires { ⌜ Placed (stackIn width height n (now samples) reference options) (now placed) ⌝ }
-    requires { ⌜ (n * suc (2 * terms .reach) ≤ length (now found)) × (take (n * suc (2 * terms .reach)) (now found) ≡ joined n (rowNumbers (stackIn width height n (now samples) reference options) (termsIn terms))) ⌝ }
-    requires { ⌜ (n ≤ length (now judged)) × (take n (now judged) ≡ reports.verdicts (stackIn width height n (now samples) reference options) (termsIn terms)) ⌝ }
-    requires { ⌜ (needed ≡ recordsNeeded (stackIn width height n (now samples) reference options) (termsIn terms)) × (length (now shifts) ≡ 2 * n) × (length (now verdicts) ≡ n) ⌝ }
+    requires { ⌜ Placed (stackIn width height n (now samples) reference options) (now placed) × Found (stackIn width height n (now samples) reference options) (termsIn terms) (now judged) (now kept) needed ⌝ }
+    requires { ⌜ (length (now shifts) ≡ 2 * n) × (length (now verdicts) ≡ n) ⌝ }
     ensures answer { λ r. ⌜ reportAnswer r ≡ answer (reportChecks [] (recordsNeeded (stackIn width height n (now (samples .entry)) reference options) (termsIn terms)) (length (now (records .entry)))) (record { crop = reportCrop (stackIn width height n (now (samples .entry)) reference options); records = needed }) ⌝ }
     ensures shifts { λ _. ⌜ now (shifts .exit) ≡ after (reportChecks [] (recordsNeeded (stackIn width height n (now (samples .entry)) reference options) (termsIn terms)) (length (now (records .entry)))) (listed (stacks.shifts (stackIn width height n (now (samples .entry)) reference options))) (now (shifts .entry)) ⌝ }
     ensures verdicts { λ _. ⌜ now (verdicts .exit) ≡ after (reportChecks [] (recordsNeeded (stackIn width height n (now (samples .entry)) reference options) (termsIn terms)) (length (now (records .entry)))) (reports.verdicts (stackIn width height n (now (samples .entry)) reference options) (termsIn terms)) (now (verdicts .entry)) ⌝ }
@@ -837,7 +714,7 @@ fn write_report(
     if records.len() < 20 * needed {
         return ReportAnswer::Refused(Error::Records(needed));
     }
-    put_frames(
+    put_found(
         samples,
         width,
         height,
@@ -846,12 +723,14 @@ fn write_report(
         options,
         terms,
         placed,
-        found,
+        judged,
+        kept,
+        needed,
+        verdicts,
         records,
         words,
     );
     copy_shifts(placed, shifts);
-    copy_run(judged, 0, verdicts, 0, n);
     let crop = crop_of(shifts, width, height);
     ReportAnswer::Reported(Summary {
         crop,
@@ -870,8 +749,8 @@ fn report_within(
     options: Options,
     terms: Terms,
     placed: &mut [i32],
-    found: &mut [u8],
     judged: &mut [u8],
+    kept: &mut [u8],
     shifts: &mut [i32],
     verdicts: &mut [u8],
     records: &mut [u8],
@@ -879,7 +758,7 @@ fn report_within(
     words: &mut [u64],
 ) -> ReportAnswer
     requires { ⌜ (reference < n) × (terms .reach ≤ 64) × Ready width height n (options .percentile) (options .bits) (length (now samples)) (length (now placed)) (length (now bytes)) (length (now words)) ⌝ }
-    requires { ⌜ (n * suc (2 * terms .reach) ≤ length (now found)) × (n ≤ length (now judged)) × (length (now shifts) ≡ 2 * n) × (length (now verdicts) ≡ n) ⌝ }
+    requires { ⌜ (n ≤ length (now judged)) × (length (now shifts) ≡ 2 * n) × (length (now verdicts) ≡ n) ⌝ }
     ensures answer { λ r. ⌜ reportAnswer r ≡ answer (reportChecks [] (recordsNeeded (stackIn width height n (now (samples .entry)) reference options) (termsIn terms)) (length (now (records .entry)))) (record { crop = reportCrop (stackIn width height n (now (samples .entry)) reference options); records = recordsNeeded (stackIn width height n (now (samples .entry)) reference options) (termsIn terms) }) ⌝ }
     ensures shifts { λ _. ⌜ now (shifts .exit) ≡ after (reportChecks [] (recordsNeeded (stackIn width height n (now (samples .entry)) reference options) (termsIn terms)) (length (now (records .entry)))) (listed (stacks.shifts (stackIn width height n (now (samples .entry)) reference options))) (now (shifts .entry)) ⌝ }
     ensures verdicts { λ _. ⌜ now (verdicts .exit) ≡ after (reportChecks [] (recordsNeeded (stackIn width height n (now (samples .entry)) reference options) (termsIn terms)) (length (now (records .entry)))) (reports.verdicts (stackIn width height n (now (samples .entry)) reference options) (termsIn terms)) (now (verdicts .entry)) ⌝ }
@@ -887,8 +766,8 @@ fn report_within(
     ensures bytes { λ _. ⌜ FreeUpTo (stackNeed n (stepBytes width height (options .bits))) (now (bytes .entry)) (now (bytes .exit)) ⌝ }
     ensures words { λ _. ⌜ FreeUpTo (stackNeed n (stepWords width height)) (now (words .entry)) (now (words .exit)) ⌝ }
     ensures placed { λ _. ⌜ now (placed .exit) ≡ sets (now (placed .entry)) 0 (listed (stacks.shifts (stackIn width height n (now (samples .entry)) reference options))) ⌝ }
-    ensures found { λ _. ⌜ now (found .exit) ≡ sets (now (found .entry)) 0 (joined n (rowNumbers (stackIn width height n (now (samples .entry)) reference options) (termsIn terms))) ⌝ }
     ensures judged { λ _. ⌜ now (judged .exit) ≡ sets (now (judged .entry)) 0 (reports.verdicts (stackIn width height n (now (samples .entry)) reference options) (termsIn terms)) ⌝ }
+    ensures kept { λ _. ⌜ now (kept .exit) ≡ keptIn (now (kept .entry)) 0 (recordsBytes (reports.records (stackIn width height n (now (samples .entry)) reference options) (termsIn terms))) ⌝ }
 {
     walk(
         samples,
@@ -910,8 +789,8 @@ fn report_within(
         options,
         terms,
         placed,
-        found,
         judged,
+        kept,
         words,
     );
     write_report(
@@ -923,8 +802,8 @@ fn report_within(
         options,
         terms,
         placed,
-        found,
         judged,
+        kept,
         needed,
         shifts,
         verdicts,
@@ -971,10 +850,10 @@ pub fn report(
         Outcome::Done => {
             let width = widths[0];
             let height = heights[0];
-            // Room for 16 frames: their shifts, the rivals in each row of their windows, and their verdicts.
+            // Room for the shifts and the verdicts of 16 frames, and for the first 3,276 records.
             let mut placed = [0i32; 32];
-            let mut found = [0u8; 2064];
             let mut judged = [0u8; 16];
+            let mut kept = [0u8; 65520];
             report_within(
                 samples,
                 width,
@@ -984,8 +863,8 @@ pub fn report(
                 options,
                 terms,
                 &mut placed[0..32],
-                &mut found[0..2064],
                 &mut judged[0..16],
+                &mut kept[0..65520],
                 shifts,
                 verdicts,
                 records,

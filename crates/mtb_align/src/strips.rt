@@ -1,16 +1,16 @@
 // Loops over rows. Both bitmaps of a frame are packed in one pass: a table by value gives a sample's two bits, and 32 samples make
 // one number with both halves.
+use super::geometry::smaller;
+use super::geometry::without;
 ghost use mathlib.Core.Path.{_≡_};
-ghost use Prim.Native.Nat.{ℕ, _+_, _-_, _*_, _/_, _%_, _≤_, _<_};
-ghost use lib.Dec.{ltb};
-ghost use lib.ListN.{length, getD};
+ghost use Prim.Native.Nat.{_+_, _-_, _*_, _/_, _%_, _≤_, _<_};
+ghost use lib.ListN.{length, replicate};
 ghost use lib.Seq.{sets};
-ghost use Rattle.definitions.specs.Sum.{bit};
 ghost use Rattle.definitions.specs.Threshold.{thresholdBit, exclusionBit};
 ghost use Rattle.definitions.specs.Bitmap.{wordsPerRow, bitmapWords, wordOf, packed};
 ghost use Rattle.definitions.specs.Difference.{bitmapsOf};
 ghost use Rattle.mtb_align.specs.Search.{packedPair};
-ghost use Rattle.mtb_align.specs.Packing.{entryOf, tableOf, bitsFrom, twoOf, rowWords};
+ghost use Rattle.mtb_align.specs.Packing.{tableOf, bitsFrom, twoOf, rowWords};
 
 // One word of each bitmap.
 pub(crate) struct Words {
@@ -18,45 +18,32 @@ pub(crate) struct Words {
     pub exclusion: u64,
 }
 
-fn distance(a: u16, b: u16) -> u16
-    ensures { λ r. ⌜ r ≡ (a - b) + (b - a) ⌝ }
+// One value in the places from `from` on and before `to`.
+fn fill_run(table: &mut [u64; 256], from: usize, to: usize, value: u64)
+    requires { ⌜ (length (now table) ≡ 256) × (from ≤ to) × (to ≤ 256) ⌝ }
+    ensures { λ _. ⌜ now (table .exit) ≡ sets (now (table .entry)) from (replicate (to - from) value) ⌝ }
 {
-    if a < b {
-        return b - a;
+    let mut v = from;
+    while v < to {
+        table[v] = value;
+        v += 1;
     }
-    a - b
 }
 
-// 1 where a exceeds b, else 0.
-fn exceeds(a: u16, b: u16) -> u64
-    ensures { λ r. ⌜ r ≡ bit (ltb b a) ⌝ }
-{
-    if a > b {
-        return 1;
-    }
-    0
-}
-
-// The two bits of a sample value.
-fn entry(value: u8, cut: u16, tolerance: u8) -> u64
-    ensures { λ r. ⌜ r ≡ entryOf cut tolerance value ⌝ }
-{
-    let level = value as u16;
-    let threshold = exceeds(level, cut);
-    let exclusion = exceeds(distance(level, cut), tolerance as u16);
-    threshold + exclusion * 4294967296
-}
-
-// The two bits of every sample value.
+// The two bits of every sample value, run by run: far below the cut, near it and not above, near it and above, far above.
 pub(crate) fn fill_table(table: &mut [u64; 256], cut: u16, tolerance: u8)
     requires { ⌜ length (now table) ≡ 256 ⌝ }
     ensures { λ _. ⌜ now (table .exit) ≡ tableOf cut tolerance ⌝ }
 {
-    let mut v: usize = 0;
-    while v < 256 {
-        table[v] = entry(v as u8, cut, tolerance);
-        v += 1;
-    }
+    let middle = cut as usize;
+    let spread = tolerance as usize;
+    let near = smaller(without(middle, spread), 256);
+    let above = smaller(middle + 1, 256);
+    let far = smaller(middle + 1 + spread, 256);
+    fill_run(table, 0, near, 4294967296);
+    fill_run(table, near, above, 0);
+    fill_run(table, above, far, 1);
+    fill_run(table, far, 256, 4294967297);
 }
 
 // The two bits of up to 32 samples.

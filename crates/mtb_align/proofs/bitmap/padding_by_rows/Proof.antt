@@ -5,7 +5,7 @@ use native.Mathlib.Omega.{arith}
 use lib.ListN.{getD}
 use Rattle.definitions.specs.Bitmap.{bitOf, wordAt, paddingSet}
 use Rattle.definitions.specs.Sum.{sum}
-use Rattle.laws.specs.Bitmaps.{last-inside, paddingIn, padding-none, padding-row}
+use Rattle.laws.specs.Bitmaps.{last-inside, paddingIn, padding-row}
 use Rattle.laws.specs.Sums.{sum-none, sum-step}
 use Rattle.mtb_align.proofs.Pixels.{inside}
 use Rattle.mtb_align.proofs.bitmap.padding_by_rows.Statement.{statement}

@@ -9,7 +9,6 @@ use lib.Seq.{sets, length-sets}
 use Rattle.definitions.specs.Build.{build}
 use Rattle.definitions.specs.Gray.{grey, fromRgb}
 use Rattle.laws.specs.Lists.{build-length}
-use Rattle.laws.specs.Sizes.{area}
 use Rattle.laws.specs.Writes.{store-none, store-more, sets-whole}
 use Rattle.mtb_align.proofs.gray.flatten.Statement.{statement}
 use Rattle.mtb_align.proofs.gray.flatten.Tie as tie

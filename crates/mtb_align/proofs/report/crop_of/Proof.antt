@@ -2,14 +2,12 @@
 use mathlib.Core.Path.{_≡_, sym, ap, _∙_}
 use mathlib.Core.List.{[]}
 use Prim.Native.Nat.{ℕ, _%_, _≤_}
-use lib.Dec.{eqb}
-use lib.ListN.{length}
 use borrow.Author.Needs.{needs}
 use borrow.Author.Tests.{ne-eqb}
 use native.Mathlib.Omega.{arith}
-use Rattle.definitions.specs.Refusals.{Answer, accepted, refused, answer, cropChecks}
+use Rattle.definitions.specs.Refusals.{accepted, answer, cropChecks}
 use Rattle.laws.specs.Checks.{not-both, sides-skip, skip, done}
-use Rattle.mtb_align.specs.Answers.{cropAnswer, rectIn, refusal}
+use Rattle.mtb_align.specs.Answers.{cropAnswer}
 use Rattle.mtb_align.proofs.report.crop_of.Statement.{statement}
 use Rattle.mtb_align.proofs.report.crop_of.Tie as tie
 

@@ -1,12 +1,10 @@
 -- `mtb_align::report::report` meets its contract. Assumes nothing.
-use mathlib.Core.Path.{_≡_, refl, sym, ap, _∙_, subst}
-use mathlib.Core.List.{List, []}
-use Prim.Native.Nat.{ℕ, suc, _-_, _*_, _≤_}
+use mathlib.Core.Path.{_≡_, refl, sym, ap, _∙_}
+use mathlib.Core.List.{List}
+use Prim.Native.Nat.{ℕ}
 use borrow.Author.Needs.{needs}
-use native.Mathlib.Nat.{mul-le-mul}
 use native.Mathlib.Omega.{arith}
-use lib.ListN.{length, take, drop, replicate, length-replicate}
-use lib.Seq.{length-take-le}
+use lib.ListN.{length}
 use Rattle.definitions.specs.Align.{Stack, stackOf}
 use Rattle.definitions.specs.Refusals.{Check, accepted, answer, surveyChecks, reportChecks}
 use Rattle.definitions.specs.Report.{recordsNeeded, reportCrop}
@@ -38,16 +36,6 @@ first s =
 
 abbrev all : tie.Start → List Check
 all s = reportChecks (first s) (needs-all s) (length (s .args .records .now))
-
--- a part that is the whole of an array of zeros
-part-long : (n : ℕ) → length (take (n - 0) (drop 0 (replicate {A = ℕ} n 0))) ≡ n
-part-long n =
-    let e : n - 0 ≡ n = omega arith in
-    ap (λ (m : ℕ). length (take m (replicate {A = ℕ} n 0))) e ∙ length-take-le n (replicate {A = ℕ} n 0) (omega (arith, length-replicate {A = ℕ} n 0))
-
--- the rows of all windows are few
-rows-most : {n reach : ℕ} → n ≤ 16 → reach ≤ 64 → n * suc (2 * reach) ≤ 2064
-rows-most {n} {reach} p q = let side : suc (2 * reach) ≤ 129 = omega arith in mul-le-mul p side
 
 -- past the first
 passes : (c : tie.After-enum-told) → accepted (tt {0}) ≡ answer (first (c .before .before .before .before .before .before .before .before .before .before)) tt
@@ -82,32 +70,31 @@ part-placed-end c = search needs
 sub-report-within-2 : tie.Need-sub-report-within-2
 sub-report-within-2 c = search needs
 
-part-found-start : tie.Need-part-found-start
-part-found-start c = search needs
-
-part-found-end : tie.Need-part-found-end
-part-found-end c = search needs
-
-sub-report-within-3 : tie.Need-sub-report-within-3
-sub-report-within-3 c = search needs
-
 part-judged-start : tie.Need-part-judged-start
 part-judged-start c = search needs
 
 part-judged-end : tie.Need-part-judged-end
 part-judged-end c = search needs
 
+sub-report-within-3 : tie.Need-sub-report-within-3
+sub-report-within-3 c = search needs
+
+part-kept-start : tie.Need-part-kept-start
+part-kept-start c = search needs
+
+part-kept-end : tie.Need-part-kept-end
+part-kept-end c = search needs
+
 report-within-requires : tie.Need-report-within-requires
 report-within-requires c κs =
     let q = held (c .before .before .before .before .before .before .before .before .before .before) in
-    let a = c .before .before .before .before .before .before .before .before .before .before .before .before .before .before .before .before .before .before .before .before .args in
     let r = ready (q .stack) in (
       (
         q .stack .frames .among,
         q .near,
         record { wide = r .wide; high = r .high; few = r .few; cut = r .cut; frames = r .frames; list = omega (arith, r .few); pixels = r .pixels; maps = r .maps },
       ),
-      (subst (λ (m : ℕ). length (a .widths .now) * suc (2 * a .terms .reach) ≤ m) (sym (part-long 2064)) (rows-most (q .stack .frames .few) (q .near)), r .few, q .stack .list, q .judged),
+      (r .few, q .stack .list, q .judged),
     )
 
 enum-known-error : tie.Need-enum-known-error
@@ -178,11 +165,11 @@ report-spec =
     part-placed-start
     part-placed-end
     sub-report-within-2
-    part-found-start
-    part-found-end
-    sub-report-within-3
     part-judged-start
     part-judged-end
+    sub-report-within-3
+    part-kept-start
+    part-kept-end
     report-within-requires
     enum-known-error
     same-length

@@ -1,14 +1,11 @@
 -- `mtb_align::report::survey_pair` meets its contract. Assumes nothing.
-use mathlib.Core.Path.{_≡_, sym, ap, _∙_}
-use Prim.Native.Nat.{ℕ, suc, _+_, _*_, _≤_}
+use mathlib.Core.Path.{ap}
+use Prim.Native.Nat.{_+_}
 use borrow.Author.Needs.{needs}
 use native.Mathlib.Omega.{arith}
-use lib.ListN.{length}
-use lib.Seq.{sets}
-use Rattle.definitions.specs.Build.{build}
 use Rattle.definitions.specs.Difference as difference
 use Rattle.definitions.specs.Report.{survey}
-use Rattle.laws.specs.Surveys.{rowRivals}
+use Rattle.laws.specs.Kept.{recordsOf, keeps-same}
 use Rattle.mtb_align.specs.Answers.{shiftIn}
 use Rattle.mtb_align.specs.Search.{pairCounts}
 use Rattle.mtb_align.proofs.Surveyed.{counted-few}
@@ -45,14 +42,9 @@ returns c =
     let a = s .args in
     let at = pairCounts (a .words .now) (a .width) (a .height) in
     let q = a .terms in
-    let e = c .before .before .before .before .before .before .before .before .counts-at .ensures in
-    let same = ap (λ (n : difference.Counts). n .disagreeing) e in
-    let r = c .before .before .survey .ensures in (
-      (
-        ap (λ (n : difference.Counts). n .compared) e,
-        r .0 ∙ ap (λ (n : ℕ). length (survey at (shiftIn (a .step)) (q .reach) (q .floor) (n + q .margin))) same,
-      ),
-      r .1 ∙ ap (λ (n : ℕ). sets (a .found .now) (a .at) (build (suc (2 * q .reach)) (λ (j : ℕ). length (rowRivals at (shiftIn (a .step)) (q .reach) (q .floor) (n + q .margin) j)))) same,
+    let e = c .before .before .before .before .before .before .before .before .counts-at .ensures in (
+      ap (λ (n : difference.Counts). n .compared) e,
+      keeps-same (ap (λ (n : difference.Counts). recordsOf at (a .frame) (survey at (shiftIn (a .step)) (q .reach) (q .floor) (n .disagreeing + q .margin))) e) (c .before .before .survey .ensures),
     )
 
 pub survey-pair-spec : {M : Type 1} → statement M

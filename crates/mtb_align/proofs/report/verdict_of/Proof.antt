@@ -9,20 +9,20 @@ use Rattle.mtb_align.proofs.report.verdict_of.Tie as tie
 
 returns : tie.Need-returns
 returns c =
-    let a = c .before .before .args .surveyed in
-    sym (ap (λ (t : Bool). cond {A = ℕ} t 1 (cond (eqb (a .rivals) 1) 2 3)) (lt-ltb (a .compared) (c .before .before .args .floor) (c .if1 .taken)))
+    let a = c .before .args in
+    sym (ap (λ (t : Bool). cond {A = ℕ} t 1 (cond (eqb (a .rivals) 1) 2 3)) (lt-ltb (a .compared) (a .floor) (c .if1 .taken)))
 
 returns-2 : tie.Need-returns-2
 returns-2 c =
-    let a = c .before .before .before .before .args in
-    sym (ap (λ (t : Bool). cond {A = ℕ} t 1 (cond (eqb (a .surveyed .rivals) 1) 2 3)) (le-ltb (a .surveyed .compared) (a .floor) (c .before .before .if1 .left))
-    ∙ ap (λ (t : Bool). cond {A = ℕ} t 2 3) (eq-eqb (a .surveyed .rivals) 1 (c .if2 .taken)))
+    let a = c .before .before .args in
+    sym (ap (λ (t : Bool). cond {A = ℕ} t 1 (cond (eqb (a .rivals) 1) 2 3)) (le-ltb (a .compared) (a .floor) (c .before .if1 .left))
+    ∙ ap (λ (t : Bool). cond {A = ℕ} t 2 3) (eq-eqb (a .rivals) 1 (c .if2 .taken)))
 
 returns-3 : tie.Need-returns-3
 returns-3 c =
-    let a = c .before .before .before .before .args in
-    sym (ap (λ (t : Bool). cond {A = ℕ} t 1 (cond (eqb (a .surveyed .rivals) 1) 2 3)) (le-ltb (a .surveyed .compared) (a .floor) (c .before .before .if1 .left))
-    ∙ ap (λ (t : Bool). cond {A = ℕ} t 2 3) (ne-eqb (a .surveyed .rivals) 1 (c .if2 .left)))
+    let a = c .before .before .args in
+    sym (ap (λ (t : Bool). cond {A = ℕ} t 1 (cond (eqb (a .rivals) 1) 2 3)) (le-ltb (a .compared) (a .floor) (c .before .if1 .left))
+    ∙ ap (λ (t : Bool). cond {A = ℕ} t 2 3) (ne-eqb (a .rivals) 1 (c .if2 .left)))
 
 pub verdict-of-spec : {M : Type 1} → statement M
 verdict-of-spec = tie.close (tie.spec returns returns-2 returns-3)

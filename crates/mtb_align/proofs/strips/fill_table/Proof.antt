@@ -1,75 +1,100 @@
--- `mtb_align::strips::fill_table` meets its contract. The loop has stored the first v entries. Assumes nothing.
-use mathlib.Core.Path.{_≡_, refl, sym, ap, _∙_}
-use Prim.Native.Nat.{ℕ, _+_, _-_, _≤_}
-use native.Mathlib.Nat.{zero-add}
+-- `mtb_align::strips::fill_table` meets its contract: each run adds the entries of its values. Assumes nothing.
+use mathlib.Core.Path.{_≡_, sym, ap, _∙_}
+use Prim.Native.Nat.{_-_}
+use borrow.Author.Needs.{needs}
 use native.Mathlib.Omega.{arith}
-use lib.ListN.{length, set}
+use lib.ListN.{length}
 use lib.Seq.{sets, length-sets}
 use Rattle.definitions.specs.Build.{build}
 use Rattle.laws.specs.Lists.{build-length}
-use Rattle.laws.specs.Writes.{store-none, store-more, sets-whole}
+use Rattle.laws.specs.Runs.{fill-more}
+use Rattle.laws.specs.Writes.{store-none, sets-whole}
 use Rattle.mtb_align.specs.Packing.{entryOf, tableOf}
+use Rattle.mtb_align.proofs.Two.{entry-far-below, entry-near-below, entry-near-above, entry-far-above}
 use Rattle.mtb_align.proofs.strips.fill_table.Statement.{statement}
 use Rattle.mtb_align.proofs.strips.fill_table.Tie as tie
 
-abbrev Inv-loop : tie.InvT-loop
-Inv-loop table₀ cut tolerance v₀ table v = (v ≤ 256) × (table ≡ sets table₀ 0 (build v (entryOf cut tolerance)))
+without-requires : tie.Need-without-requires
+without-requires c κs = search needs
 
-abbrev μ-loop : tie.MeasureT-loop
-μ-loop table₀ cut tolerance v₀ table v = 256 - v
+smaller-requires : tie.Need-smaller-requires
+smaller-requires c κs = search needs
 
-loop-holds : tie.Need-loop-holds Inv-loop μ-loop
-loop-holds c = (omega arith, store-none (c .args .table .now) 0 (entryOf (c .args .cut) (c .args .tolerance)))
+add-smaller : tie.Need-add-smaller
+add-smaller c = search needs
 
-cast-entry : tie.Need-cast-entry Inv-loop μ-loop
-cast-entry c = omega arith
+smaller-requires-2 : tie.Need-smaller-requires-2
+smaller-requires-2 c κs = search needs
 
-entry-requires : tie.Need-entry-requires Inv-loop μ-loop
-entry-requires c κs = tt
+add-smaller-2 : tie.Need-add-smaller-2
+add-smaller-2 c = search needs
 
-mul-table : tie.Need-mul-table Inv-loop μ-loop
-mul-table c = omega arith
+add-smaller-3 : tie.Need-add-smaller-3
+add-smaller-3 c = search needs
 
-element-write-table : tie.Need-element-write-table Inv-loop μ-loop
-element-write-table c = omega arith
+smaller-requires-3 : tie.Need-smaller-requires-3
+smaller-requires-3 c κs = search needs
 
-add-v : tie.Need-add-v Inv-loop μ-loop
-add-v c = omega arith
+fill-run-requires : tie.Need-fill-run-requires
+fill-run-requires c κs = (c .before .before .before .before .before .pre, omega arith, omega (arith, c .before .before .before .smaller .ensures))
 
-loop-less : tie.Need-loop-less Inv-loop μ-loop
-loop-less c = omega arith
+-- the entries of the values before each end
+first : (c : tie.After-fill-run) → let a = c .before .before .before .before .before .before .args in c .fill-run .last .0 ≡ sets (a .table .now) 0 (build (c .before .before .before .before .smaller .result) (entryOf (a .cut) (a .tolerance)))
+first c =
+    let a = c .before .before .before .before .before .before .args in
+    let f = entryOf (a .cut) (a .tolerance) in
+    fill-more (a .table .now) f 0 (c .before .before .before .before .smaller .result) 4294967296 (omega arith)
+    (λ v g h. entry-far-below (a .cut) (a .tolerance) v (omega (arith, c .before .before .before .before .smaller .ensures, c .before .before .before .before .before .without .ensures))) (store-none (a .table .now) 0 f) (c .fill-run .ensures)
 
-loop-again : tie.Need-loop-again Inv-loop μ-loop
-loop-again c =
-    let l = c .before .before in
-    let x = l .before .args in
-    let v = l .loop .v in (
-      omega arith,
-      ap (λ (k : ℕ). set (l .loop .table) k (c .entry .result)) (sym (zero-add v))
-          ∙ store-more (x .table .now) 0 v (entryOf (x .cut) (x .tolerance)) (l .loop .inv .1) (c .entry .ensures),
-    )
+fill-run-requires-2 : tie.Need-fill-run-requires-2
+fill-run-requires-2 c κs =
+    let a = c .before .before .before .before .before .before .before .args in
+    (ap length (first (c .before)) ∙ length-sets (a .table .now) 0 (build (c .before .before .before .before .before .smaller .result) (entryOf (a .cut) (a .tolerance))) ∙ c .before .before .before .before .before .before .before .pre, omega (arith, c .before .before .before .before .before .smaller .ensures, c .before .before .before .before .before .before .without .ensures, c .before .before .before .before .smaller2 .ensures), omega (arith, c .before .before .before .before .smaller2 .ensures))
 
-returns : tie.Need-returns Inv-loop μ-loop
+second : (c : tie.After-fill-run2) → let a = c .before .before .before .before .before .before .before .before .args in c .fill-run2 .last .0 ≡ sets (a .table .now) 0 (build (c .before .before .before .before .before .smaller2 .result) (entryOf (a .cut) (a .tolerance)))
+second c =
+    let a = c .before .before .before .before .before .before .before .before .args in
+    fill-more (a .table .now) (entryOf (a .cut) (a .tolerance)) (c .before .before .before .before .before .before .smaller .result) (c .before .before .before .before .before .smaller2 .result) 0 (omega (arith, c .before .before .before .before .before .before .smaller .ensures, c .before .before .before .before .before .before .before .without .ensures, c .before .before .before .before .before .smaller2 .ensures))
+    (λ v g h. entry-near-below (a .cut) (a .tolerance) v (omega (arith, c .before .before .before .before .before .before .smaller .ensures, c .before .before .before .before .before .before .before .without .ensures, c .before .before .before .before .before .smaller2 .ensures)) (omega (arith, c .before .before .before .before .before .smaller2 .ensures))) (first (c .before .before)) (c .fill-run2 .ensures)
+
+fill-run-requires-3 : tie.Need-fill-run-requires-3
+fill-run-requires-3 c κs =
+    let a = c .before .before .before .before .before .before .before .before .before .args in
+    (ap length (second (c .before)) ∙ length-sets (a .table .now) 0 (build (c .before .before .before .before .before .before .smaller2 .result) (entryOf (a .cut) (a .tolerance))) ∙ c .before .before .before .before .before .before .before .before .before .pre, omega (arith, c .before .before .before .before .before .before .smaller2 .ensures, c .before .before .before .before .before .smaller3 .ensures), omega (arith, c .before .before .before .before .before .smaller3 .ensures))
+
+third : (c : tie.After-fill-run3) → let a = c .before .before .before .before .before .before .before .before .before .before .args in c .fill-run3 .last .0 ≡ sets (a .table .now) 0 (build (c .before .before .before .before .before .before .smaller3 .result) (entryOf (a .cut) (a .tolerance)))
+third c =
+    let a = c .before .before .before .before .before .before .before .before .before .before .args in
+    fill-more (a .table .now) (entryOf (a .cut) (a .tolerance)) (c .before .before .before .before .before .before .before .smaller2 .result) (c .before .before .before .before .before .before .smaller3 .result) 1 (omega (arith, c .before .before .before .before .before .before .before .smaller2 .ensures, c .before .before .before .before .before .before .smaller3 .ensures))
+    (λ v g h. entry-near-above (a .cut) (a .tolerance) v (omega (arith, c .before .before .before .before .before .before .before .smaller2 .ensures, c .before .before .before .before .before .before .smaller3 .ensures)) (omega (arith, c .before .before .before .before .before .before .smaller3 .ensures))) (second (c .before .before)) (c .fill-run3 .ensures)
+
+fill-run-requires-4 : tie.Need-fill-run-requires-4
+fill-run-requires-4 c κs =
+    let a = c .before .before .before .before .before .before .before .before .before .before .before .args in
+    (ap length (third (c .before)) ∙ length-sets (a .table .now) 0 (build (c .before .before .before .before .before .before .before .smaller3 .result) (entryOf (a .cut) (a .tolerance))) ∙ c .before .before .before .before .before .before .before .before .before .before .before .pre, omega (arith, c .before .before .before .before .before .before .before .smaller3 .ensures), omega arith)
+
+returns : tie.Need-returns
 unfolding tableOf
 returns c =
-    let x = c .before .before .args in
-    let e : c .before .loop .v ≡ 256 = omega arith in
-    c .before .loop .inv .1
-    ∙ ap (λ (n : ℕ). sets (x .table .now) 0 (build n (entryOf (x .cut) (x .tolerance)))) e
-    ∙ sets-whole (x .table .now) (build 256 (entryOf (x .cut) (x .tolerance))) (build-length 256 _ ∙ sym (c .before .before .pre))
+    let a = c .before .before .before .before .before .before .before .before .before .before .before .before .args in
+    let f = entryOf (a .cut) (a .tolerance) in
+    fill-more (a .table .now) f (c .before .before .before .before .before .before .before .before .smaller3 .result) 256 4294967297 (omega (arith, c .before .before .before .before .before .before .before .before .smaller3 .ensures))
+    (λ v g h. entry-far-above (a .cut) (a .tolerance) v (omega (arith, c .before .before .before .before .before .before .before .before .smaller3 .ensures))) (third (c .before .before)) (c .fill-run4 .ensures)
+    ∙ sets-whole (a .table .now) (build 256 f) (build-length 256 f ∙ sym (c .before .before .before .before .before .before .before .before .before .before .before .before .pre))
 
 pub fill-table-spec : {M : Type 1} → statement M
 fill-table-spec =
     tie.close
     (tie.spec
-    Inv-loop
-    μ-loop
-    loop-holds
-    cast-entry
-    entry-requires
-    mul-table
-    element-write-table
-    add-v
-    loop-less
-    loop-again
+    without-requires
+    smaller-requires
+    add-smaller
+    smaller-requires-2
+    add-smaller-2
+    add-smaller-3
+    smaller-requires-3
+    fill-run-requires
+    fill-run-requires-2
+    fill-run-requires-3
+    fill-run-requires-4
     returns)

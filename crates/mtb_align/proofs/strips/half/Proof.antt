@@ -1,10 +1,10 @@
 -- `mtb_align::strips::half` meets its contract. The loop has both bits of the first i samples. Assumes nothing.
-use mathlib.Core.Path.{_≡_, refl, sym, ap, _∙_}
+use mathlib.Core.Path.{_≡_, ap, _∙_}
 use mathlib.Core.List.{List}
 use Prim.Native.Nat.{ℕ, _+_, _-_, _*_, _%_, _^_, _≤_, _<_}
 use native.Mathlib.Omega.{arith}
 use lib.ListN.{getD}
-use Rattle.mtb_align.specs.Packing.{entryOf, tableOf, twoOf}
+use Rattle.mtb_align.specs.Packing.{tableOf, twoOf}
 use Rattle.mtb_align.proofs.Two.{table-at, two-none, two-lt, two-more}
 use Rattle.mtb_align.proofs.strips.half.Statement.{statement}
 use Rattle.mtb_align.proofs.strips.half.Tie as tie

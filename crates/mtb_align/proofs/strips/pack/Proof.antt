@@ -1,6 +1,6 @@
 -- `mtb_align::strips::pack` meets its contract. The loop has stored the first y rows of both bitmaps. Assumes nothing.
-use mathlib.Core.Path.{_≡_, refl, sym, ap, _∙_}
-use Prim.Native.Nat.{ℕ, _+_, _-_, _*_, _/_, _≤_, _<_}
+use mathlib.Core.Path.{_≡_, refl, ap, _∙_}
+use Prim.Native.Nat.{_+_, _-_, _≤_}
 use native.Mathlib.Nat.{mul-comm}
 use native.Mathlib.Omega.{arith}
 use lib.ListN.{length}
@@ -9,7 +9,7 @@ use Rattle.definitions.specs.Build.{joined}
 use Rattle.definitions.specs.Threshold.{thresholdBit, exclusionBit}
 use Rattle.definitions.specs.Bitmap.{wordsPerRow}
 use Rattle.definitions.specs.Difference.{bitmapsOf}
-use Rattle.laws.specs.Sizes.{area, row-inside}
+use Rattle.laws.specs.Sizes.{row-inside}
 use Rattle.laws.specs.Writes.{rows-none}
 use Rattle.mtb_align.proofs.Rows.{rowAt, rows-turn, rows-all}
 use Rattle.mtb_align.proofs.strips.pack.Statement.{statement}

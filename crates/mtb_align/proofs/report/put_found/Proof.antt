@@ -1,0 +1,89 @@
+-- `mtb_align::report::put_found` meets its contract. Assumes nothing.
+use mathlib.Core.Path.{_≡_, sym, ap, _∙_}
+use Prim.Native.Nat.{_*_}
+use borrow.Author.Needs.{needs}
+use native.Mathlib.Omega.{arith}
+use lib.Seq.{sets}
+use Rattle.definitions.specs.Align.{Stack}
+use Rattle.definitions.specs.Report.{records, verdicts}
+use Rattle.laws.specs.Kept.{keeps-all}
+use Rattle.laws.specs.Lists.{build-length}
+use Rattle.laws.specs.Records.{records-number}
+use Rattle.laws.specs.StackWalks.{free-same}
+use Rattle.laws.specs.Writes.{sets-whole}
+use Rattle.mtb_align.specs.Stack.{stackIn}
+use Rattle.mtb_align.specs.Survey.{termsIn}
+use Rattle.mtb_align.proofs.Surveyed.{front-copied}
+use Rattle.mtb_align.proofs.report.put_found.Statement.{statement}
+use Rattle.mtb_align.proofs.report.put_found.Tie as tie
+
+abbrev stack : tie.Start → Stack
+stack s = let a = s .args in stackIn (a .width) (a .height) (a .n) (a .samples .now) (a .reference) (a .options)
+
+-- the verdicts are as many as the list holds
+whole : (s : tie.Start) → sets (s .args .verdicts .now) 0 (verdicts (stack s) (termsIn (s .args .terms))) ≡ verdicts (stack s) (termsIn (s .args .terms))
+unfolding verdicts
+whole s = sets-whole (s .args .verdicts .now) (verdicts (stack s) (termsIn (s .args .terms))) (build-length _ _ ∙ sym (s .pre .1 .1 .0))
+
+mul-bytes : tie.Need-mul-bytes
+mul-bytes c = search needs
+
+copy-run-requires : tie.Need-copy-run-requires
+copy-run-requires c κs = let s = c .before .before .before .before .before .before .before .before in (omega (arith, s .pre .1 .0 .1 .long), omega (arith, s .pre .1 .1 .0))
+
+copy-run-requires-2 : tie.Need-copy-run-requires-2
+copy-run-requires-2 c κs = let s = c .before .before .before .before .before .before .before .before .before .before .before .before in (omega (arith, c .before .before .before .before .before .if1 .taken), omega (arith, s .pre .1 .1 .1))
+
+same-length : tie.Need-same-length
+same-length c = search needs
+
+same-length-2 : tie.Need-same-length-2
+same-length-2 c = search needs
+
+returns : tie.Need-returns
+returns c =
+    let s = c .before .before .before .before .before .before .before .before .before .before .before .before .before .before .before in
+    let a = s .args in
+    let f = s .pre .1 .0 .1 in (
+      c .before .before .before .before .before .before .copy-run .ensures ∙ ap (sets (a .verdicts .now) 0) (front-copied (a .n) (a .judged .now) (f .long) ∙ f .judgements) ∙ whole s,
+      (
+        c .before .before .copy-run2 .ensures ∙ ap (sets (a .records .now) 0) (front-copied (20 * a .needed) (a .kept .now) (c .before .before .before .before .before .before .before .before .if1 .taken) ∙ f .bytes (c .before .before .before .before .before .before .before .before .if1 .taken)),
+        free-same _ _,
+      ),
+    )
+
+survey-frames-requires : tie.Need-survey-frames-requires
+survey-frames-requires c κs = let s = c .before .before .before .before .before .before .before .before .before .before in (s .pre .0, (s .pre .1 .0 .0, omega (arith, s .pre .1 .1 .0)))
+
+same-length-3 : tie.Need-same-length-3
+same-length-3 c = search needs
+
+same-length-4 : tie.Need-same-length-4
+same-length-4 c = search needs
+
+same-length-5 : tie.Need-same-length-5
+same-length-5 c = search needs
+
+returns-2 : tie.Need-returns-2
+returns-2 c =
+    let s = c .before .before .before .before .before .before .before .before .before .before .before .before .before .before .before .before .before in
+    let e = c .before .before .before .before .before .before .survey-frames .ensures in (
+      e .1 .0 ∙ whole s,
+      (keeps-all (e .0) (omega (arith, s .pre .1 .1 .1, s .pre .1 .0 .1 .number, records-number (stack s) (termsIn (s .args .terms)))), e .1 .1),
+    )
+
+pub put-found-spec : {M : Type 1} → statement M
+put-found-spec =
+    tie.close
+    (tie.spec
+    mul-bytes
+    copy-run-requires
+    copy-run-requires-2
+    same-length
+    same-length-2
+    returns
+    survey-frames-requires
+    same-length-3
+    same-length-4
+    same-length-5
+    returns-2)
