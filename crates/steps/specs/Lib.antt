@@ -1,0 +1,3 @@
+-- The text that the program prints, and what the functions that put it compute.
+pub mod Inner
+pub mod Text
