@@ -4,10 +4,10 @@ use mathlib.Core.Bool.{Bool, true, false, cond}
 use mathlib.Core.List.{List, [], _∷_, _++_, map, append-assoc, append-nil, List·Memᴰ, List·Memᴰ·head, List·Memᴰ·tail}
 use mathlib.Core.Logic.{⊎-elim}
 use Prim.Native.Nat.{ℕ, zero, suc, _+_, _-_, _*_, _/_, _%_, _≤_, _<_}
-use native.Mathlib.Nat.{not-suc-le-zero, mul-le-mul}
+use native.Mathlib.Nat.{not-suc-le-zero}
 use native.Mathlib.Omega.{arith}
 use borrow.Author.Tests.{lt-ltb, le-ltb, eq-eqb, ne-eqb}
-use lib.Dec.{ltb, eqb}
+use lib.Dec.{eqb}
 use lib.IntN.{ℤ, pos, negsuc}
 use lib.ListN.{length, getD}
 use lib.Seq.{getD-append-add}
@@ -15,7 +15,7 @@ use Rattle.definitions.specs.Build.{build, joined, keepIf}
 use Rattle.definitions.specs.Geometry.{ahead, behind, Shift}
 use Rattle.definitions.specs.Align.{Stack}
 use Rattle.definitions.specs.Report.{Terms, frameCounts, rivals, Record, frameRecords, records, bytes32, twosComplement, recordBytes, recordsBytes}
-use Rattle.laws.specs.Cases.{lt-or-le, eq-or-ne}
+use Rattle.laws.specs.Cases.{lt-or-le}
 use Rattle.laws.specs.Lists.{build-is}
 use Rattle.laws.specs.Records.{record-length}
 use Rattle.laws.specs.Surveys.{keep-joined, keep-none, keep-more, keep-count, keep-few}

@@ -2,4 +2,5 @@
 pub mod Decoded
 pub mod Numbers
 pub mod Puts
+pub mod Room
 pub mod Stacked

@@ -1,16 +1,15 @@
 -- Numbers in decimal digits, and whole numbers by their sign and size. Assumes nothing.
 use mathlib.Core.Path.{_≡_, refl, sym, ap, _∙_}
 use mathlib.Core.Bool.{Bool, true, false, cond}
-use mathlib.Core.List.{List, [], _∷_, _++_}
+use mathlib.Core.List.{_++_}
 use mathlib.Core.Logic.{⊎-elim}
 use Prim.Native.Nat.{ℕ, zero, suc, _+_, _-_, _*_, _/_, _^_, _≤_, _<_}
 use native.Mathlib.Omega.{arith}
 use borrow.Author.Tests.{lt-ltb, le-ltb}
-use lib.Dec.{ltb}
 use lib.IntN.{ℤ, pos, negsuc, natAbs}
 use lib.Signed.{ltZ}
 use Rattle.io.specs.Digits.{digits, Fewest}
-use Rattle.definitions.specs.Geometry.{ahead, behind}
+use Rattle.definitions.specs.Geometry.{behind}
 use Rattle.laws.specs.Cases.{lt-or-le}
 use Rattle.laws.specs.Whole.{alone, lt-true, lt-false}
 use Rattle.steps.specs.Text.{ascii, placesUpTo, decimal, integer}

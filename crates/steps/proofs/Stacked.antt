@@ -1,53 +1,54 @@
 -- The stack of an input: its report is accepted, its records fit, and its text is read back from what the report wrote. Assumes nothing.
 use mathlib.Core.Path.{_≡_, refl, sym, ap, ap₂, _∙_, subst}
-use mathlib.Core.Bool.{Bool, true, false, cond, not, _||_}
+use mathlib.Core.Bool.{Bool, true, false, cond, _||_}
 use mathlib.Core.List.{List, [], _∷_, _++_, List·Memᴰ}
 use mathlib.Core.Logic.{⊎-elim}
 use Prim.Native.Nat.{ℕ, zero, suc, _+_, _-_, _*_, _/_, _%_, _≤_, _<_}
-use native.Mathlib.Nat.{mul-le-mul}
 use native.Mathlib.Omega.{arith}
 use borrow.Author.Tests.{lt-ltb, le-ltb, eq-eqb, ne-eqb}
-use lib.IntN.{ℤ, pos, negsuc, natAbs, _-ℤ_}
-use lib.ListN.{length, getD, drop, replicate, length-replicate}
-use lib.Dec.{ltb, eqb}
+use lib.IntN.{ℤ, natAbs, _-ℤ_}
+use lib.ListN.{length, getD, drop, replicate, length-replicate, getD-replicate}
+use lib.Dec.{eqb}
 use Rattle.definitions.specs.Build.{build, joined}
-use Rattle.definitions.specs.Geometry.{Shift, Rect, origin, listed, ahead, behind}
+use Rattle.definitions.specs.Geometry.{Shift, Rect, origin, listed}
 use Rattle.definitions.specs.Sum.{sum}
 use Rattle.definitions.specs.Shrink.{sideAt, samplesAt, halvedSamples}
 use Rattle.definitions.specs.Bitmap.{wordsPerRow}
 use Rattle.definitions.specs.Difference.{Counts}
 use Rattle.definitions.specs.Align.{Options, Stack, logUpTo, log2, levels, stackOf, neighbour, walk, stepOf, shiftOf, shifts, stepBytes, stepWords}
 use Rattle.definitions.specs.Refusals.{Check, Answer, answer, after, accepted, refused, sideOver, wrongLength, percentileOver, noReference, framesOver, scratchShort, reachOver, pairDiffers, framesChecks, stackScratchChecks, surveyChecks, reportChecks}
-use Rattle.definitions.specs.Report.{Terms, frameCounts, rivals, Record, frameRecords, records, recordsNeeded, verdict, verdicts, reportCrop, recordsBytes}
+use Rattle.definitions.specs.Report.{Terms, rivals, Record, records, recordsNeeded, verdict, verdicts, reportCrop, recordsBytes}
 use Rattle.laws.specs.Cases.{lt-or-le}
 use Rattle.laws.specs.Checks.{not-both, accepted-too, refused-too, after-accepted, after-refused, accepted-for-space}
 use Rattle.laws.specs.ChecksReport.{refused-before}
 use Rattle.laws.specs.Lists.{build-at, joined-same}
-use Rattle.laws.specs.Records.{Names, records-name, records-number, rivals-none}
-use Rattle.laws.specs.Steps.{Within, Small, step-of-small, abs-parts}
+use Rattle.laws.specs.Records.{records-name, records-number, rivals-none}
+use Rattle.laws.specs.Steps.{Small, step-of-small, abs-parts}
 use Rattle.laws.specs.Sums.{sum-first, sum-le}
 use Rattle.laws.specs.Surveys.{frame-counts-few, rivals-window, listed-x, listed-y}
 use Rattle.laws.specs.Whole.{alone, minus}
 use Rattle.steps.specs.Text.{ascii, line, heading, frameLine, recordLines, frameText, reportText, inputOptions, inputStack, inputTerms, badInput, refusalText, text}
-use Rattle.steps.specs.Inner.{recordsOf, frameTextIn}
-use Rattle.steps.proofs.Decoded.{Held, AllHeld, records-of}
+use Rattle.steps.specs.Inner.{frameTextIn}
+use Rattle.steps.proofs.Decoded.{AllHeld, records-of}
 
 -- ---- one to eight frames of 64 by 64 pass all checks, and none have no reference
 
-pub in-order : (n : ℕ) → 1 ≤ n → n ≤ 8 → answer (surveyChecks (replicate n 64) (replicate n 64) 50 0 6 (n * 4096) (2 * n) n 1 2728 256) (tt {0}) ≡ accepted tt
-unfolding answer surveyChecks framesChecks framesOver wrongLength sideOver percentileOver noReference pairDiffers neighbour walk build reachOver stackScratchChecks scratchShort stepBytes stepWords levels log2 logUpTo halvedSamples sum samplesAt sideAt wordsPerRow
-in-order zero l h = absurd (omega arith)
-in-order (suc zero) l h = refl
-in-order (suc (suc zero)) l h = refl
-in-order (suc (suc (suc zero))) l h = refl
-in-order (suc (suc (suc (suc zero)))) l h = refl
-in-order (suc (suc (suc (suc (suc zero))))) l h = refl
-in-order (suc (suc (suc (suc (suc (suc zero)))))) l h = refl
-in-order (suc (suc (suc (suc (suc (suc (suc zero))))))) l h = refl
-in-order (suc (suc (suc (suc (suc (suc (suc (suc zero)))))))) l h = refl
-in-order (suc (suc (suc (suc (suc (suc (suc (suc (suc n))))))))) l h = absurd (omega arith)
+-- The checks of n frames, with the scratch that the program lends.
+abbrev checksFrom : ℕ → List Check
+checksFrom n = surveyChecks (replicate n 64) (replicate n 64) 50 0 6 (n * 4096) (2 * n) n 1 2728 256
 
-pub no-reference : answer (surveyChecks [] [] 50 0 6 0 0 0 1 2728 256) (tt {0}) ≡ refused 5 (0 ∷ 0 ∷ [])
+all-in-order : build 8 (λ (i : ℕ). answer (checksFrom (suc i)) (tt {0})) ≡ replicate 8 (accepted tt)
+unfolding answer surveyChecks framesChecks framesOver wrongLength sideOver percentileOver noReference pairDiffers neighbour walk build reachOver stackScratchChecks scratchShort stepBytes stepWords levels log2 logUpTo halvedSamples sum samplesAt sideAt wordsPerRow
+all-in-order = refl
+
+in-order : (n : ℕ) → 1 ≤ n → n ≤ 8 → answer (checksFrom n) (tt {0}) ≡ accepted tt
+in-order zero l h = absurd (omega arith)
+in-order (suc n) l h =
+    sym (build-at 8 (λ (i : ℕ). answer (checksFrom (suc i)) (tt {0})) n (accepted tt) h)
+    ∙ ap (λ (k : List (Answer (Unit {0}))). getD k n (accepted tt)) all-in-order
+    ∙ getD-replicate 8 n (accepted tt) (accepted tt) h
+
+no-reference : answer (checksFrom 0) (tt {0}) ≡ refused 5 (0 ∷ 0 ∷ [])
 unfolding answer surveyChecks framesChecks framesOver wrongLength percentileOver noReference
 no-reference = refl
 
@@ -70,8 +71,16 @@ unfolding stackOf
 few-from zero input l h = absurd (omega arith)
 few-from (suc n) input l h = record { wide = refl; high = refl; some = omega arith; most = omega (arith, length-replicate {A = ℕ} n 64); first = refl }
 
+-- a record of such a stack
+pub record Short (e : Record) : Type 0 where
+  pub frame : e .frame < 8
+  pub across : natAbs (e .shift .x) ≤ 8192
+  pub down : natAbs (e .shift .y) ≤ 8192
+  pub disagreeing : e .counts .disagreeing ≤ 4096
+  pub compared : e .counts .compared ≤ 4096
+
 module _ (a : Stack) (few : Few a) where
-  small : Small a
+  pub small : Small a
   small = record { width = omega (arith, few .wide); height = omega (arith, few .high); frames = omega (arith, few .most); reference = omega (arith, few .first, few .some) }
 
   -- no more records than nine for each frame but the reference
@@ -91,26 +100,38 @@ module _ (a : Stack) (few : Few a) where
       )
 
   -- a coordinate within one of a step
-  near : (c z : ℤ) → natAbs c ≤ 8191 → natAbs (z -ℤ c) ≤ 1 → (ahead z < 2147483648) × (behind z ≤ 2147483648)
-  near c z h k = omega (arith, abs-parts c, abs-parts (z -ℤ c), minus z c, alone z)
+  near : (c z : ℤ) → natAbs c ≤ 8191 → natAbs (z -ℤ c) ≤ 1 → natAbs z ≤ 8192
+  near c z h k = omega (arith, abs-parts c, abs-parts z, abs-parts (z -ℤ c), minus z c, alone z)
 
-  -- 32 bits hold each of their numbers
-  pub records-held : AllHeld (records a inputTerms)
-  records-held e m =
+  -- the records' numbers are small
+  pub short : (e : Record) → List·Memᴰ e (records a inputTerms) → Short e
+  short e m =
       let n = records-name a inputTerms e m in
       let step = step-of-small a small (e .frame) in
-      let x = near (stepOf a (e .frame) .x) (e .shift .x) (step .across) (n .rival .across) in
-      let y = near (stepOf a (e .frame) .y) (e .shift .y) (step .down) (n .rival .down) in
       let counts = frame-counts-few a (e .frame) (e .shift) in
       let pixels : a .height * a .width ≡ 4096 = ap₂ _*_ (few .high) (few .wide) in
       record {
         frame = omega (arith, n .frame, few .most);
-        right = x .0;
-        left = x .1;
-        down = y .0;
-        up = y .1;
+        across = near (stepOf a (e .frame) .x) (e .shift .x) (step .across) (n .rival .across);
+        down = near (stepOf a (e .frame) .y) (e .shift .y) (step .down) (n .rival .down);
         disagreeing = omega (arith, ap (λ (c : Counts). c .disagreeing) (n .counts), counts .0, pixels);
         compared = omega (arith, ap (λ (c : Counts). c .compared) (n .counts), counts .1, pixels);
+      }
+
+  -- so that 32 bits hold them
+  records-held : AllHeld (records a inputTerms)
+  records-held e m =
+      let s = short e m in
+      let x = abs-parts (e .shift .x) in
+      let y = abs-parts (e .shift .y) in
+      record {
+        frame = omega (arith, s .frame);
+        right = omega (arith, s .across);
+        left = omega (arith, s .across);
+        down = omega (arith, s .down);
+        up = omega (arith, s .down);
+        disagreeing = omega (arith, s .disagreeing);
+        compared = omega (arith, s .compared);
       }
 
   -- ---- its text, from what a report writes
@@ -199,7 +220,7 @@ module _ {n : ℕ} {input widths heights : List ℕ} {percentile bits shiftList 
   same-stack : stack ≡ stackFrom n input
   same-stack i = stackOf (call .wide i) (call .high i) input 0 (call .cut i) (call .options i)
 
-  same-checks : before ≡ surveyChecks (replicate n 64) (replicate n 64) 50 0 6 (n * 4096) (2 * n) n 1 2728 256
+  same-checks : before ≡ checksFrom n
   same-checks i = surveyChecks (call .wide i) (call .high i) (call .cut i) 0 (call .deep i) (call .whole i) (call .list i) (call .judged i) (call .near i) 2728 256
 
   -- frames are accepted
@@ -238,7 +259,7 @@ module _ {n : ℕ} {input widths heights : List ℕ} {percentile bits shiftList 
   -- no frames are refused
   none-refused : n ≡ 0 → {A : Type 0} (a : A) → answer checks a ≡ refused 5 (0 ∷ 0 ∷ [])
   none-refused e a =
-      let p = same-checks ∙ ap (λ (m : ℕ). surveyChecks (replicate m 64) (replicate m 64) 50 0 6 (m * 4096) (2 * m) m 1 2728 256) e in
+      let p = same-checks ∙ ap checksFrom e in
       sym (refused-before before (recordsNeeded stack q) 1260 a (refused-too (tt {0}) a before (ap (λ (l : List Check). answer l tt) p ∙ no-reference)))
 
   -- so an answer tells whether there are frames

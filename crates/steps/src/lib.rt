@@ -10,7 +10,7 @@ ghost use mathlib.Core.Bool.{cond};
 ghost use mathlib.Core.List.{[], _∷_, _++_};
 ghost use Prim.Native.Nat.{_+_, _*_, _≤_, _<_, min};
 ghost use lib.Dec.{eqb};
-ghost use lib.IntN.{pos, natAbs};
+ghost use lib.IntN.{natAbs};
 ghost use lib.ListN.{length, getD, take, drop, replicate};
 ghost use Rattle.definitions.specs.Build.{joined};
 ghost use Rattle.definitions.specs.Geometry.{listed};
@@ -406,7 +406,8 @@ fn put_report(samples: &[u8], n: usize, out: &mut [u8]) -> usize
     )
 }
 
-// The text for an input at the start of `out`, as far as there is room; the answer is how long it is there.
+// The text for an input at the start of `out`, as far as there is room; the answer is its length there. 8,192 bytes are room enough for
+// any (`text-fits` in proofs/Room.antt).
 pub fn put_text(input: &[u8], out: &mut [u8]) -> usize
     ensures length { λ r. ⌜ r ≡ min (length (text (now (input .entry)))) (length (now (out .entry))) ⌝ }
     ensures text { λ _. ⌜ now (out .exit) ≡ take (length (now (out .entry))) (text (now (input .entry))) ++ drop (length (text (now (input .entry)))) (now (out .entry)) ⌝ }

@@ -1,10 +1,10 @@
 -- `steps::one_if_of` meets its contract. Assumes nothing.
-use mathlib.Core.Path.{_≡_, sym, ap, _∙_}
+use mathlib.Core.Path.{sym, ap, _∙_}
 use mathlib.Core.Bool.{Bool, cond}
 use Prim.Native.Nat.{ℕ}
 use borrow.Author.Needs.{needs}
 use borrow.Author.Tests.{eq-eqb, ne-eqb}
-use Rattle.steps.specs.Inner.{fieldOf, recordAt}
+use Rattle.steps.specs.Inner.{recordAt}
 use Rattle.steps.proofs.one_if_of.Statement.{statement}
 use Rattle.steps.proofs.one_if_of.Tie as tie
 

@@ -1,11 +1,10 @@
 -- `steps::put_bytes` meets its contract. The first i bytes are put. Assumes nothing.
-use mathlib.Core.Path.{_≡_, sym, ap, _∙_}
-use mathlib.Core.List.{_++_}
+use mathlib.Core.Path.{sym, ap, _∙_}
 use Prim.Native.Nat.{ℕ, _-_, _≤_, _<_}
 use borrow.Author.Needs.{needs}
 use native.Mathlib.Numerals.{add-one}
 use native.Mathlib.Omega.{arith}
-use lib.ListN.{length, getD, take}
+use lib.ListN.{length, take}
 use lib.Seq.{take-suc, take-all}
 use Rattle.steps.specs.Inner.{Put}
 use Rattle.steps.proofs.Puts.{put-none, put-then, put-as, put-within, put-long}

@@ -1,6 +1,5 @@
 -- `steps::put_heading` meets its contract. Assumes nothing.
 use borrow.Author.Needs.{needs}
-use native.Mathlib.Omega.{arith}
 use Rattle.steps.specs.Text.{ascii, line, heading}
 use Rattle.steps.proofs.Puts.{put-then, put-within}
 use Rattle.steps.proofs.put_heading.Statement.{statement}

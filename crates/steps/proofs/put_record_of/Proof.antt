@@ -1,12 +1,11 @@
 -- `steps::put_record_of` meets its contract. Assumes nothing.
 use mathlib.Core.Path.{_≡_, sym, ap, _∙_}
-use mathlib.Core.Bool.{Bool, true, false, cond}
+use mathlib.Core.Bool.{Bool, cond}
 use mathlib.Core.List.{List, [], _∷_, append-nil}
 use Prim.Native.Nat.{ℕ}
 use borrow.Author.Needs.{needs}
 use borrow.Author.Tests.{eq-eqb, ne-eqb}
 use lib.Dec.{eqb}
-use Rattle.definitions.specs.Report.{Record}
 use Rattle.steps.specs.Text.{recordLine, recordLines}
 use Rattle.steps.specs.Inner.{fieldOf, recordAt}
 use Rattle.steps.proofs.Puts.{put-as, put-none}
