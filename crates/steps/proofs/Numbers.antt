@@ -30,6 +30,15 @@ lowest n k f =
     let low : 10 ^ (suc (suc k) - 1) ≤ n = f .2 (omega arith) in
     omega (arith, ap (λ (m : ℕ). 10 ^ m) e)
 
+-- how many digits a number has, by whether it is one
+pub one-place : (most n : ℕ) → n < 10 → placesUpTo (suc most) n ≡ 1
+unfolding placesUpTo
+one-place most n h = ap (λ (t : Bool). cond t 1 (suc (placesUpTo most (n / 10)))) (lt-ltb n 10 h)
+
+pub more-places : (most n : ℕ) → 10 ≤ n → placesUpTo (suc most) n ≡ suc (placesUpTo most (n / 10))
+unfolding placesUpTo
+more-places most n h = ap (λ (t : Bool). cond t 1 (suc (placesUpTo most (n / 10)))) (le-ltb n 10 h)
+
 -- the fewest digits that hold a number are those that it has
 places : (most n k : ℕ) → n ≤ most → Fewest 10 1 n k → k ≡ placesUpTo most n
 unfolding placesUpTo
@@ -37,8 +46,8 @@ places zero n zero h f = omega arith
 places zero n (suc zero) h f = refl
 places zero n (suc (suc k)) h f = absurd (omega (arith, lowest n k f, ten k, tens k))
 places (suc most) n k h f = ⊎-elim
-    (λ (l : n < 10). small k f l ∙ sym (ap (λ (t : Bool). cond t 1 (suc (placesUpTo most (n / 10)))) (lt-ltb n 10 l)))
-    (λ (l : 10 ≤ n). large (places most (n / 10)) k f l ∙ sym (ap (λ (t : Bool). cond t 1 (suc (placesUpTo most (n / 10)))) (le-ltb n 10 l)))
+    (λ (l : n < 10). small k f l ∙ sym (one-place most n l))
+    (λ (l : 10 ≤ n). large (places most (n / 10)) k f l ∙ sym (more-places most n l))
     (lt-or-le n 10)
   where
     small : (k : ℕ) → Fewest 10 1 n k → n < 10 → k ≡ 1

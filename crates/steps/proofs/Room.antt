@@ -1,11 +1,9 @@
 -- No text is longer than 8,192 bytes. Assumes nothing.
 use mathlib.Core.Path.{_≡_, refl, ap}
-use mathlib.Core.Bool.{Bool, cond}
 use mathlib.Core.List.{List, [], _∷_, _++_, map, List·Memᴰ, List·Memᴰ·head, List·Memᴰ·tail}
 use mathlib.Core.Logic.{⊎-elim}
 use Prim.Native.Nat.{ℕ, zero, suc, _+_, _*_, _/_, _%_, _^_, _≤_, _<_}
 use native.Mathlib.Omega.{arith}
-use borrow.Author.Tests.{lt-ltb, le-ltb}
 use lib.IntN.{ℤ, pos, negsuc, natAbs}
 use lib.ListN.{length, length-append, length-map}
 use Rattle.io.specs.Digits.{digits, glyph}
@@ -21,6 +19,7 @@ use Rattle.laws.specs.Steps.{abs-parts, shift-small}
 use Rattle.laws.specs.Sums.{sum-le}
 use Rattle.laws.specs.Surveys.{rivals-window}
 use Rattle.steps.specs.Text.{ascii, placesUpTo, decimal, integer, line, heading, verdictWord, frameLine, recordLine, recordLines, frameText, reportText, inputTerms, refusalText, text}
+use Rattle.steps.proofs.Numbers.{one-place, more-places}
 use Rattle.steps.proofs.Stacked.{Few, Short, small, short, few-from, stackFrom, text-long, text-part, text-none, text-report}
 
 -- ---- words
@@ -29,8 +28,8 @@ places-few : (most n k : ℕ) → n < 10 ^ suc k → placesUpTo most n ≤ suc k
 unfolding placesUpTo
 places-few zero n k h = omega arith
 places-few (suc most) n k h = ⊎-elim
-    (λ (l : n < 10). omega (arith, ap (λ (t : Bool). cond t 1 (suc (placesUpTo most (n / 10)))) (lt-ltb n 10 l)))
-    (λ (l : 10 ≤ n). omega (arith, ap (λ (t : Bool). cond t 1 (suc (placesUpTo most (n / 10)))) (le-ltb n 10 l), longer (places-few most (n / 10)) k h l))
+    (λ (l : n < 10). omega (arith, one-place most n l))
+    (λ (l : 10 ≤ n). omega (arith, more-places most n l, longer (places-few most (n / 10)) k h l))
     (lt-or-le n 10)
   where
     longer : ((k : ℕ) → n / 10 < 10 ^ suc k → placesUpTo most (n / 10) ≤ suc k) → (k : ℕ) → n < 10 ^ suc k → 10 ≤ n → suc (placesUpTo most (n / 10)) ≤ suc k

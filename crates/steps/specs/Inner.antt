@@ -12,6 +12,7 @@ use Rattle.definitions.specs.Report.{Record}
 use Rattle.steps.specs.Text.{frameLine, recordLines}
 
 -- A text that is put into a buffer from a place on, as far as there is room: what the buffer holds then, and where the next byte goes.
+-- Past the end of a list `sets` stores nothing.
 pub record Put (old : List ℕ) (at : ℕ) (text new : List ℕ) (next : ℕ) : Type 0 where
   pub held : new ≡ sets old at text
   pub ends : next ≡ min (at + length text) (length old)
