@@ -21,7 +21,7 @@ module _ (c : Shift → ℤ) where
   le-largest f (s ∷ l) zero h = omega arith
   le-largest f (s ∷ l) (suc i) h = omega (arith, le-largest f l i (le-of-suc-le-suc h))
 
-  largest-le : (f : ℤ → ℕ) (l : List Shift) (b : ℕ) → ((i : ℕ) → i < length l → f (c (getD l i origin)) ≤ b) → largest f (map c l) ≤ b
+  pub largest-le : (f : ℤ → ℕ) (l : List Shift) (b : ℕ) → ((i : ℕ) → i < length l → f (c (getD l i origin)) ≤ b) → largest f (map c l) ≤ b
   unfolding largest
   largest-le f [] b h = omega arith
   largest-le f (s ∷ l) b h = omega (arith, h 0 (zero-lt-suc (length l)), largest-le f l b (λ i k. h (suc i) (suc-le-suc k)))

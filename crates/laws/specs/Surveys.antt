@@ -7,15 +7,17 @@ use Prim.Native.Nat.{ℕ, zero, suc, _+_, _-_, _*_, _%_, _<_, _≤_}
 use native.Mathlib.Nat.{eq-or-lt-of-le, mul-le-mul, mul-le-mul-right}
 use native.Mathlib.Numerals.{add-one}
 use native.Mathlib.Omega.{arith}
-use lib.Dec.{leb}
+use lib.Dec.{ltb, leb}
 use lib.IntN.{ℤ, pos, negsuc, _+ℤ_, _-ℤ_}
 use lib.ListN.{length, getD, take, drop, length-append, length-map}
 use lib.Seq.{sets, take-at}
-use Rattle.definitions.specs.Build.{build, joined, keepIf}
+use Rattle.definitions.specs.Build.{build, joined, sample, keepIf}
 use Rattle.definitions.specs.Geometry.{Shift, Source, inside, outside, source, atSource, atSources, origin, offset, listed, ahead, behind}
+use Rattle.definitions.specs.Shrink.{sideAt, levelOf}
+use Rattle.definitions.specs.Threshold.{cut, distance, exclusionBit}
 use Rattle.definitions.specs.Bitmap.{wordAt, bitAt, total}
-use Rattle.definitions.specs.Difference.{Counts, bitmapsIn, comparedBit, disagreeingBit, overlap, counts}
-use Rattle.definitions.specs.Align.{Stack, neighbour, stepOf, shiftOf}
+use Rattle.definitions.specs.Difference.{Bitmaps, Counts, bitmapsOf, bitmapsIn, comparedBit, disagreeingBit, overlap, counts}
+use Rattle.definitions.specs.Align.{Options, Exposure, Stack, bitmapsAt, countsAt, exposure, neighbour, stepOf, shiftOf}
 use Rattle.definitions.specs.Report.{Terms, frameCounts, limitOf, rivals, frameRecords, window, isRival, survey, Record, bytes32, twosComplement, recordBytes, recordsBytes}
 use Rattle.definitions.specs.Sum.{sum}
 use Rattle.laws.specs.Members.{joined-sum}
@@ -24,7 +26,7 @@ use Rattle.laws.specs.Bits.{bit-lt}
 use Rattle.laws.specs.Lists.{build-none, build-more}
 use Rattle.laws.specs.Writes.{sets-append, sets-front}
 use Rattle.laws.specs.Whole.{add, minus, equal}
-use Rattle.laws.specs.Cases.{lt-or-le, eq-or-ne}
+use Rattle.laws.specs.Cases.{lt-or-le, eq-or-ne, bit-le}
 use Rattle.laws.specs.ChecksStack.{neighbour-below, neighbour-above}
 use Rattle.laws.specs.StackWalks.{shift-below, shift-above}
 use borrow.Author.Tests.{le-ltb, lt-leb}
@@ -49,13 +51,30 @@ overlap-few : (w h : ℕ) (s : Shift) (f : ℕ → ℕ → ℕ → ℕ → ℕ) 
 unfolding overlap
 overlap-few w h s f few = sum-le h w _ (λ y _. sum-le-one w _ (λ x _. at-sources-few w h s x y (f x y) (few x y)))
 
-pub counts-few : (w h : ℕ) (a b c d : List ℕ) (s : Shift) → let n = counts w h (bitmapsIn w a b) (bitmapsIn w c d) s in (n .disagreeing ≤ h * w) × (n .compared ≤ h * w)
-unfolding counts bitmapsIn comparedBit disagreeingBit
-counts-few w h a b c d s =
-    let r = bitmapsIn w a b in
-    let t = bitmapsIn w c d in
-    let few : (x y u v : ℕ) → comparedBit r t x y u v ≤ 1 = λ x y u v. omega (arith, bit-few b w x y) in
+pub counts-within : (w h : ℕ) (r t : Bitmaps) (s : Shift) → ((x y : ℕ) → r .exclusion x y ≤ 1)
+    → let n = counts w h r t s in (n .disagreeing ≤ h * w) × (n .compared ≤ h * w)
+unfolding counts comparedBit disagreeingBit
+counts-within w h r t s one =
+    let few : (x y u v : ℕ) → comparedBit r t x y u v ≤ 1 = λ x y u v. omega (arith, one x y) in
     (overlap-few w h s (disagreeingBit r t) (λ x y u v. omega (arith, few x y u v)), overlap-few w h s (comparedBit r t) few)
+
+pub counts-few : (w h : ℕ) (a b c d : List ℕ) (s : Shift) → let n = counts w h (bitmapsIn w a b) (bitmapsIn w c d) s in (n .disagreeing ≤ h * w) × (n .compared ≤ h * w)
+unfolding bitmapsIn
+counts-few w h a b c d s = counts-within w h (bitmapsIn w a b) (bitmapsIn w c d) s (bit-few b w)
+
+-- and so are those of a frame of a stack
+trusted-few : (o : Options) (w h : ℕ) (e : Exposure) (k x y : ℕ) → bitmapsAt o w h e k .exclusion x y ≤ 1
+unfolding bitmapsAt bitmapsOf exclusionBit
+trusted-few o w h e k x y =
+    let s = levelOf (o .shrink) w h (e .samples) k in
+    bit-le (ltb (o .tolerance) (distance (sample s (sideAt k w) x y) (cut s (e .percentile))))
+
+pub frame-counts-few : (a : Stack) (k : ℕ) (s : Shift) → let n = frameCounts a k s in (n .disagreeing ≤ a .height * a .width) × (n .compared ≤ a .height * a .width)
+unfolding frameCounts countsAt sideAt
+frame-counts-few a k s =
+    let bitmaps : ℕ → Bitmaps = λ i. bitmapsAt (a .options) (a .width) (a .height) (exposure a i) 0 in
+    let j = neighbour (a .reference) k in
+    counts-within (a .width) (a .height) (bitmaps j) (bitmaps k) s (trusted-few (a .options) (a .width) (a .height) (exposure a j) 0)
 
 -- ---- nor are more pixels compared than the reference's exclusion bitmap has
 
@@ -291,13 +310,15 @@ listed-y (s ∷ l) (suc i) = let e : 2 * suc i + 1 ≡ suc (suc (2 * i + 1)) = o
 survey-few : (at : Shift → Counts) (c : Shift) (reach floor limit : ℕ) → length (survey at c reach floor limit) ≤ suc (2 * reach) * suc (2 * reach)
 survey-few at c reach floor limit = omega (arith, ap length (survey-rows at c reach floor limit), rows-few at c reach floor limit (suc (2 * reach)))
 
-pub rivals-few : (a : Stack) (q : Terms) (k : ℕ) → q .reach ≤ 64 → length (rivals a q k) ≤ 16641
-rivals-few a q k h = ⊎-elim
+pub rivals-window : (a : Stack) (q : Terms) (k : ℕ) → length (rivals a q k) ≤ suc (2 * q .reach) * suc (2 * q .reach)
+rivals-window a q k = ⊎-elim
     (λ (e : k ≡ a .reference). omega (arith, ap length (rivals-none a q k e)))
     (λ (ne : k ≡ a .reference → ⊥).
-    let side : suc (2 * q .reach) ≤ 129 = omega arith in
-    omega (arith, ap length (rivals-survey a q k ne), survey-few (frameCounts a k) (stepOf a k) (q .reach) (q .floor) (limitOf a q k), mul-le-mul side side))
+    omega (arith, ap length (rivals-survey a q k ne), survey-few (frameCounts a k) (stepOf a k) (q .reach) (q .floor) (limitOf a q k)))
     (eq-or-ne k (a .reference))
+
+pub rivals-few : (a : Stack) (q : Terms) (k : ℕ) → q .reach ≤ 64 → length (rivals a q k) ≤ 16641
+rivals-few a q k h = let side : suc (2 * q .reach) ≤ 129 = omega arith in omega (arith, rivals-window a q k, mul-le-mul side side)
 
 pub rivals-most : (a : Stack) (q : Terms) (n : ℕ) → q .reach ≤ 64 → n ≤ 16 → sum n (λ (k : ℕ). length (rivals a q k)) ≤ 266256
 rivals-most a q n h few = omega (arith, sum-le n 16641 (λ (k : ℕ). length (rivals a q k)) (λ k _. rivals-few a q k h), mul-le-mul-right 16641 few)

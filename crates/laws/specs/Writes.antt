@@ -4,8 +4,8 @@ use mathlib.Core.List.{List, [], _∷_, _++_, append-nil}
 use Prim.Native.Nat.{ℕ, suc, _+_, _*_, _<_, _≤_}
 use native.Mathlib.Nat.{add-zero, zero-add, add-suc, suc-add}
 use native.Mathlib.Omega.{arith}
-use lib.ListN.{length, getD, set, drop, drop-of-length-le}
-use lib.Seq.{sets, sets-eq, set-comm, getD-set-other, drop-set-lt}
+use lib.ListN.{length, getD, set, drop, length-set, drop-of-length-le}
+use lib.Seq.{sets, sets-eq, set-out, set-comm, getD-set-other, drop-set-lt}
 use Rattle.definitions.specs.Build.{build, joined}
 use Rattle.laws.specs.Lists.{build-none, build-more, build-length, joined-none, joined-more, joined-length}
 
@@ -26,6 +26,11 @@ module _ {A : Type 0} where
   -- the front of a list
   pub sets-front : (l vs : List A) → length vs ≤ length l → sets l 0 vs ≡ vs ++ drop (length vs) l
   sets-front l vs h = sets-eq vs l 0 (omega arith) ∙ ap (λ (k : ℕ). vs ++ drop k l) (zero-add (length vs))
+
+  -- a run that begins past the end stores nothing
+  pub sets-out : (l vs : List A) (i : ℕ) → length l ≤ i → sets l i vs ≡ l
+  sets-out l [] i h = refl
+  sets-out l (v ∷ vs) i h = sets-out (set l i v) vs (suc i) (omega (arith, length-set l i v)) ∙ set-out l i v h
 
   -- ---- a loop that stores f k at i + k
 

@@ -1,15 +1,15 @@
--- `steps::magnitude` is safe. Assumes nothing.
+-- `steps::magnitude` meets its contract. Assumes nothing.
 use mathlib.Core.Path.{_≡_, ap, _∙_}
 use Prim.Native.Nat.{_≤_}
-use borrow.Author.Needs.{needs}
 use native.Mathlib.Omega.{arith}
-use lib.IntN.{ℤ, pos, _-ℤ_}
+use lib.IntN.{ℤ, pos, natAbs, _-ℤ_}
 use mir.Syntax.{w32, w64}
 use mir.Val.{toZ, ofZ}
 use mir.Facts.{toZ-ofZ}
 use Rattle.definitions.specs.Geometry.{behind}
+use Rattle.laws.specs.Steps.{abs-parts}
 use Rattle.laws.specs.Whole.{alone, minus, equal}
-use Rattle.laws.specs.Machine.{part32, widen, fit, fits64, read, negative, not-negative, to-nat}
+use Rattle.laws.specs.Machine.{part32, widen, fit, fits64, read, negative, not-negative, nat, to-nat}
 use Rattle.steps.proofs.magnitude.Statement.{statement}
 use Rattle.steps.proofs.magnitude.Tie as tie
 
@@ -30,6 +30,9 @@ module _ (c : tie.Then1) where
   small : behind x ≤ 2147483648
   small = part32 x (c .before .fits .coordinate) .1
 
+  result : toZ w64 (ofZ w64 less) ≡ pos (behind x)
+  result = read turned (fits64 (pos (behind x)) (omega (arith, small)) (omega arith))
+
 cast-result : tie.Need-cast-result
 cast-result c = let f = c .before .fits .coordinate in fit (toZ-ofZ f) (widen f)
 
@@ -37,11 +40,12 @@ sub-result : tie.Need-sub-result
 sub-result c = fit (turned c) (fits64 (pos (behind (x c))) (omega (arith, small c)) (omega arith))
 
 cast-result-2 : tie.Need-cast-result-2
-cast-result-2 c =
-    to-nat (read (turned c) (fits64 (pos (behind (x c))) (omega (arith, small c)) (omega arith))) (omega (arith, small c))
+cast-result-2 c = to-nat (result c) (omega (arith, small c))
 
 returns : tie.Need-returns
-returns c = search needs
+returns c =
+    let e : behind (x c) ≡ natAbs (x c) = omega (arith, abs-parts (x c), negative (toZ-ofZ (c .before .fits .coordinate)) (c .if1 .taken)) in
+    nat (result c) ∙ e
 
 cast-result-3 : tie.Need-cast-result-3
 cast-result-3 c =
@@ -49,7 +53,7 @@ cast-result-3 c =
     to-nat (not-negative (toZ-ofZ f) (c .if1 .left)) (omega (arith, part32 _ f))
 
 returns-2 : tie.Need-returns-2
-returns-2 c = search needs
+returns-2 c = ap natAbs (toZ-ofZ (c .before .fits .coordinate))
 
 pub magnitude-spec : {M : Type 1} → statement M
 magnitude-spec = tie.close (tie.spec cast-result sub-result cast-result-2 returns cast-result-3 returns-2)

@@ -1,22 +1,26 @@
--- `steps::put_records` is safe and ends. Assumes nothing.
-use mathlib.Core.Path.{_≡_}
-use Prim.Native.Nat.{_-_, _≤_}
+-- `steps::put_records` meets its contract. Assumes nothing.
+use mathlib.Core.Path.{_≡_, sym, ap}
+use Prim.Native.Nat.{ℕ, _-_, _≤_}
 use borrow.Author.Needs.{needs}
-use lib.ListN.{length}
+use native.Mathlib.Omega.{arith}
+use Rattle.steps.specs.Text.{recordLines}
+use Rattle.steps.specs.Inner.{Put, recordsOf}
+use Rattle.steps.proofs.Decoded.{lines-none, lines-more}
+use Rattle.steps.proofs.Puts.{put-none, put-then, put-as, put-within, put-long}
 use Rattle.steps.proofs.put_records.Statement.{statement}
 use Rattle.steps.proofs.put_records.Tie as tie
 
 abbrev Inv-loop : tie.InvT-loop
-Inv-loop out₀ at records from end next₀ i₀ out next i = (length out ≡ length out₀) × (next ≤ length out₀)
+Inv-loop out₀ at records count k next₀ i₀ out next i = (i ≤ count) × Put out₀ at (recordLines (recordsOf records i k)) out next
 
 abbrev μ-loop : tie.MeasureT-loop
-μ-loop out₀ at records from end next₀ i₀ out next i = end - i
+μ-loop out₀ at records count k next₀ i₀ out next i = count - i
 
 loop-holds : tie.Need-loop-holds Inv-loop μ-loop
-loop-holds c = search needs
+loop-holds c = let a = c .before .before .args in (omega arith, put-as (put-none _ _ (c .before .before .pre .0)) (sym (lines-none (a .records .now) (a .k))))
 
-put-record-requires : tie.Need-put-record-requires Inv-loop μ-loop
-put-record-requires c κs = search needs
+put-record-of-requires : tie.Need-put-record-of-requires Inv-loop μ-loop
+put-record-of-requires c κs = (put-within (c .before .before .loop .inv .1), omega (arith, c .before .loop-test .taken, c .before .before .before .before .before .pre .1))
 
 add-i : tie.Need-add-i Inv-loop μ-loop
 add-i c = search needs
@@ -25,13 +29,20 @@ loop-less : tie.Need-loop-less Inv-loop μ-loop
 loop-less c = search needs
 
 loop-again : tie.Need-loop-again Inv-loop μ-loop
-loop-again c = search needs
+loop-again c =
+    let a = c .before .before .before .before .before .before .before .before .args in
+    let l = c .before .before .before .before .before .loop in
+    (omega (arith, c .before .before .before .before .loop-test .taken), put-as (put-then (l .inv .1) (c .before .before .put-record-of .ensures)) (sym (lines-more (a .records .now) (a .k) (l .i))))
 
 same-length : tie.Need-same-length Inv-loop μ-loop
-same-length c = search needs
+same-length c = put-long (c .before .loop .inv .1)
 
 returns : tie.Need-returns Inv-loop μ-loop
-returns c = search needs
+returns c =
+    let a = c .before .before .before .before .args in
+    let l = c .before .loop in
+    let e : l .i ≡ a .count = omega (arith, l .inv .0, c .loop-test .left) in
+    put-as (l .inv .1) (ap (λ (n : ℕ). recordLines (recordsOf (a .records .now) n (a .k))) e)
 
 pub put-records-spec : {M : Type 1} → statement M
 put-records-spec =
@@ -40,7 +51,7 @@ put-records-spec =
     Inv-loop
     μ-loop
     loop-holds
-    put-record-requires
+    put-record-of-requires
     add-i
     loop-less
     loop-again

@@ -1,0 +1,23 @@
+-- `steps::one_if_of` meets its contract. Assumes nothing.
+use mathlib.Core.Path.{sym, ap, _∙_}
+use mathlib.Core.Bool.{Bool, cond}
+use Prim.Native.Nat.{ℕ}
+use borrow.Author.Needs.{needs}
+use borrow.Author.Tests.{eq-eqb, ne-eqb}
+use Rattle.steps.specs.Inner.{recordAt}
+use Rattle.steps.proofs.one_if_of.Statement.{statement}
+use Rattle.steps.proofs.one_if_of.Tie as tie
+
+field-requires : tie.Need-field-requires
+field-requires c κs = search needs
+
+returns : tie.Need-returns
+unfolding recordAt
+returns c = sym (ap (λ (t : Bool). cond {A = ℕ} t 1 0) (eq-eqb _ _ (sym (c .before .field .ensures .0) ∙ c .if1 .taken)))
+
+returns-2 : tie.Need-returns-2
+unfolding recordAt
+returns-2 c = sym (ap (λ (t : Bool). cond {A = ℕ} t 1 0) (ne-eqb _ _ (λ e. c .if1 .left (c .before .field .ensures .0 ∙ e))))
+
+pub one-if-of-spec : {M : Type 1} → statement M
+one-if-of-spec = tie.close (tie.spec field-requires returns returns-2)

@@ -1,0 +1,45 @@
+-- `steps::put_signed_field` meets its contract. Assumes nothing.
+use mathlib.Core.Path.{ap}
+use mathlib.Core.List.{List, _++_}
+use Prim.Native.Nat.{ℕ}
+use borrow.Author.Needs.{needs}
+use Rattle.steps.specs.Text.{ascii}
+use Rattle.steps.proofs.Numbers.{signed-below, signed-above}
+use Rattle.steps.proofs.Puts.{put-as}
+use Rattle.steps.proofs.put_signed_field.Statement.{statement}
+use Rattle.steps.proofs.put_signed_field.Tie as tie
+
+sub-put-negative : tie.Need-sub-put-negative
+sub-put-negative c = search needs
+
+put-negative-requires : tie.Need-put-negative-requires
+put-negative-requires c κs = search needs
+
+same-length : tie.Need-same-length
+same-length c = search needs
+
+returns : tie.Need-returns
+unfolding ascii
+returns c = put-as (c .before .before .put-negative .ensures) (ap (λ (l : List ℕ). ascii " " ++ l) (signed-below _ (c .before .before .before .before .if1 .taken) (c .before .before .before .before .before .before .pre .1)))
+
+put-next-requires : tie.Need-put-next-requires
+put-next-requires c κs = search needs
+
+same-length-2 : tie.Need-same-length-2
+same-length-2 c = search needs
+
+returns-2 : tie.Need-returns-2
+unfolding ascii
+returns-2 c = put-as (c .before .before .put-next .ensures) (ap (λ (l : List ℕ). ascii " " ++ l) (signed-above _ (c .before .before .before .before .if1 .left)))
+
+pub put-signed-field-spec : {M : Type 1} → statement M
+put-signed-field-spec =
+    tie.close
+    (tie.spec
+    sub-put-negative
+    put-negative-requires
+    same-length
+    returns
+    put-next-requires
+    same-length-2
+    returns-2)
