@@ -108,7 +108,7 @@ uint32_t mtb_align_stack(const size_t *widths, size_t widths_length, const size_
    than the step. Refused: as the stack, with verdicts after shifts in the last 2 and 9 before 7; 10. Writes shifts, the scratch of the
    stack, verdicts (0 reference, 1 weak, 2 alone, 3 contested), the crop of the shifts (left, top, wide, high), count, and count records of 20
    bytes to the front of records: frame, x, y, disagreeing, compared, 32 bits each, low byte first. Refused by 5 or 4, writes values as the stack
-   does; by 10, the number of records needed to count and to the first of values, and the scratch. */
+   does; by 10, the number of records needed to count and to the first of values, and the scratch. Takes 70,000 bytes of stack. */
 uint32_t mtb_report(const size_t *widths, size_t widths_length, const size_t *heights, size_t heights_length,
                     const uint8_t *samples, size_t samples_length, size_t reference,
                     uint32_t bits, uint8_t tolerance, uint8_t percentile, bool subsampled,

@@ -120,6 +120,15 @@ module _ {A : Type 0} (test : A → Bool) where
   unfolding keepIf
   keep-more n f = ap (keepIf test) (build-more n f) ∙ keep-append (build n f) (f n ∷ [])
 
+  -- as many more as pass
+  pub keep-count : (n : ℕ) (f : ℕ → A) {m k : ℕ} → m ≡ length (keepIf test (build n f)) → k ≡ m + cond (test (f n)) 1 0 → k ≡ length (keepIf test (build (n + 1) f))
+  keep-count n f {m} {k} e q =
+      q ∙ ap₂ _+_ e (one (test (f n))) ∙ sym (ap length (keep-more n f) ∙ length-append (keepIf test (build n f)) (cond (test (f n)) (f n ∷ []) []))
+    where
+      one : (t : Bool) → cond t 1 0 ≡ length (cond t (f n ∷ []) [])
+      one true = refl
+      one false = refl
+
   -- nothing where nothing passes
   pub keep-nothing : ((a : A) → test a ≡ false) → (l : List A) → keepIf test l ≡ []
   unfolding keepIf

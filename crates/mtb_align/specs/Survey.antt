@@ -1,13 +1,13 @@
 -- The report's answer in document 01's terms, and what its inner functions compute of a stack.
 use Prim.Native.Nat.{ℕ, _+_, _-_, _*_, _/_, _≤_}
 use mathlib.Core.Path.{_≡_}
-use mathlib.Core.List.{List}
+use mathlib.Core.List.{List, _++_}
 use lib.IntN.{ℤ}
-use lib.ListN.{length, take}
+use lib.ListN.{length, getD, take, drop}
 use Rattle.definitions.specs.Geometry as geometry
-use Rattle.definitions.specs.Align.{Stack, shifts, stepWords, stackNeed}
-use Rattle.definitions.specs.Refusals.{Answer, accepted}
-use Rattle.definitions.specs.Report.{Terms, verdicts, recordsNeeded, records, recordsBytes}
+use Rattle.definitions.specs.Align.{Options, Stack, stackOf, shifts, stepBytes, stepWords, stackNeed}
+use Rattle.definitions.specs.Refusals.{Check, Answer, accepted, surveyChecks, reportChecks}
+use Rattle.definitions.specs.Report.{Terms, verdicts, recordsNeeded, records, recordsBytes, reportCrop}
 use Rattle.laws.specs.Bands.{bandDisagreeing}
 use Rattle.mtb_align.specs.declared.report.Terms as code
 use Rattle.mtb_align.specs.declared.report.Summary.{Summary}
@@ -33,6 +33,49 @@ reportedIn s = record { crop = rectIn (s .crop); records = s .records }
 abbrev pub reportAnswer : ReportAnswer → Answer Reported
 reportAnswer (reports.Reported s) = accepted (reportedIn s)
 reportAnswer (reports.Refused e) = refusal e
+
+-- ---- the call
+
+-- A report as it is asked for: what the caller passes, and how long the buffers are that he lends.
+pub record Asked : Type 0 where
+  pub widths : List ℕ
+  pub heights : List ℕ
+  pub samples : List ℕ
+  pub reference : ℕ
+  pub percentile : ℕ
+  pub options : Options
+  pub terms : Terms
+  pub shifts : ℕ
+  pub verdicts : ℕ
+  pub records : ℕ
+  pub bytes : ℕ
+  pub words : ℕ
+
+-- Its stack.
+abbrev pub stackAsked : Asked → Stack
+stackAsked a = stackOf (a .widths) (a .heights) (a .samples) (a .reference) (a .percentile) (a .options)
+
+-- Its checks up to the scratch, and all of them.
+abbrev pub firstChecks : Asked → List Check
+firstChecks a = surveyChecks (a .widths) (a .heights) (a .percentile) (a .reference) (a .options .bits) (length (a .samples)) (a .shifts) (a .verdicts) (a .terms .reach) (a .bytes) (a .words)
+
+abbrev pub allChecks : Asked → List Check
+allChecks a = reportChecks (firstChecks a) (recordsNeeded (stackAsked a) (a .terms)) (a .records)
+
+-- What it answers where it is accepted.
+abbrev pub reportedOf : Asked → Reported
+reportedOf a = record { crop = reportCrop (stackAsked a); records = recordsNeeded (stackAsked a) (a .terms) }
+
+-- What it then leaves in the record space: its records, and behind them what was there.
+abbrev pub recordSpace : Asked → List ℕ → List ℕ
+recordSpace a old = recordsBytes (records (stackAsked a) (a .terms)) ++ drop (20 * recordsNeeded (stackAsked a) (a .terms)) old
+
+-- The scratch that it needs.
+abbrev pub bytesNeeded : Asked → ℕ
+bytesNeeded a = stackNeed (length (a .widths)) (stepBytes (getD (a .widths) 0 0) (getD (a .heights) 0 0) (a .options .bits))
+
+abbrev pub wordsNeeded : Asked → ℕ
+wordsNeeded a = stackNeed (length (a .widths)) (stepWords (getD (a .widths) 0 0) (getD (a .heights) 0 0))
 
 -- ---- a stack
 

@@ -7,9 +7,9 @@ use lib.ListN.{length, getD}
 use lib.Seq.{sets}
 use Rattle.definitions.specs.Shrink.{average, subsample}
 use Rattle.definitions.specs.Bitmap.{rowOf}
-use Rattle.definitions.specs.Align.{Options, Stack}
+use Rattle.definitions.specs.Align.{Options}
 use Rattle.definitions.specs.Refusals.{Answer, accepted, refused, after, rowChecks}
-use Rattle.definitions.specs.Report.{Terms, reportCrop, recordsNeeded}
+use Rattle.definitions.specs.Report.{Terms}
 use Rattle.mtb_align.specs.Survey.{Reported}
 
 -- An answer as a status: 0 for an accepted call, else the number of its refusal.
@@ -38,7 +38,3 @@ optionsOf bits tolerance subsampled = record { bits = bits; tolerance = toleranc
 -- 01's r, f and m.
 abbrev pub termsOf : ℕ → ℕ → ℕ → Terms
 termsOf reach floor margin = record { reach = reach; floor = floor; margin = margin }
-
--- What an accepted report returns.
-abbrev pub reportOf : Stack → Terms → Reported
-reportOf a q = record { crop = reportCrop a; records = recordsNeeded a q }

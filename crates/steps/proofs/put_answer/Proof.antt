@@ -51,8 +51,8 @@ lists c =
     let old = eqb (length (a .widths .now)) 0 in
     let f = c .report .ensures in
     let s = input-stack (called c) in (
-      f .1 .0 ∙ left (called c) _ _ ∙ ap (λ (x : Stack). cond old (a .shifts .now) (listed (shifts x))) s,
-      f .1 .1 .0 ∙ left (called c) _ _ ∙ (λ i. cond old (a .verdicts .now) (verdicts (s i) (called c .terms i))),
+      f .1 ∙ left (called c) _ _ ∙ ap (λ (x : Stack). cond old (a .shifts .now) (listed (shifts x))) s,
+      f .2 ∙ left (called c) _ _ ∙ (λ i. cond old (a .verdicts .now) (verdicts (s i) (called c .terms i))),
     )
 
 options-requires : tie.Need-options-requires
@@ -110,7 +110,7 @@ returns c =
     let a = r .before .before .before .before .before .before .before .before .before .before .before .before .before .args in
     let f = r .report .ensures in
     let e = answered (called r) (ap reportAnswer (sym (c .before .before .before .before .before .before .before .before .answer .given .1)) ∙ f .0) in
-    (put-as (c .before .before .put-summary .ensures) (summary-text (called r) (e .0) (a .shifts .now) (a .verdicts .now) (replicate 1260 0) (ap (λ (x : Reported). x .crop) (e .1)) (ap (λ (x : Reported). x .records) (e .1)) (f .1 .0) (f .1 .1 .0) (f .1 .1 .1 .0)), lists r)
+    (put-as (c .before .before .put-summary .ensures) (summary-text (called r) (e .0) (a .shifts .now) (a .verdicts .now) (replicate 1260 0) (ap (λ (x : Reported). x .crop) (e .1)) (ap (λ (x : Reported). x .records) (e .1)) (f .1) (f .2) (f .3)), lists r)
 
 same-length-4 : tie.Need-same-length-4
 same-length-4 c = search needs

@@ -125,16 +125,11 @@ returns c =
     let e = c .before .before .before .before .before .before .before .before .before .before .before .before .report-within .ensures in
     let space = length (a .records .now) in (
       e .0 ∙ space-alone (first s) (needs-all s) space p (reported s),
-      (
-        e .1 .0 ∙ space-alone-after (first s) (needs-all s) space p _ _,
-        (
-          e .1 .1 .0 ∙ space-alone-after (first s) (needs-all s) space p _ _,
-          (
-            e .1 .1 .1 .0 ∙ space-alone-after (first s) (needs-all s) space p _ _,
-            (scratch-free (first s) _ p (e .1 .1 .1 .1 .0), scratch-free (first s) _ p (e .1 .1 .1 .1 .1 .0)),
-          ),
-        ),
-      ),
+      e .1 .0 ∙ space-alone-after (first s) (needs-all s) space p _ _,
+      e .1 .1 .0 ∙ space-alone-after (first s) (needs-all s) space p _ _,
+      e .1 .1 .1 .0 ∙ space-alone-after (first s) (needs-all s) space p _ _,
+      scratch-free (first s) _ p (e .1 .1 .1 .1 .0),
+      scratch-free (first s) _ p (e .1 .1 .1 .1 .1 .0),
     )
 
 returns-2 : tie.Need-returns-2
@@ -144,13 +139,11 @@ returns-2 c =
     let p : refusal (c .before .error .given .0 .0) ≡ answer (first s) (tt {0}) = ap outcome (sym (c .before .error .given .1)) ∙ c .before .before .before .report-fits .ensures in
     let e : refusal (c .before .error .given .0 .0) ≡ answer (all s) r = refused-before (first s) (needs-all s) (length (s .args .records .now)) r (refused-too (tt {0}) r (first s) (sym p)) in (
       e,
-      (
-        sym (after-refused r (all s) _ _ (sym e)),
-        (
-          sym (after-refused r (all s) _ _ (sym e)),
-          (sym (after-refused r (all s) _ _ (sym e)), (scratch-kept (first s) _ p refl, scratch-kept (first s) _ p refl)),
-        ),
-      ),
+      sym (after-refused r (all s) _ _ (sym e)),
+      sym (after-refused r (all s) _ _ (sym e)),
+      sym (after-refused r (all s) _ _ (sym e)),
+      scratch-kept (first s) _ p refl,
+      scratch-kept (first s) _ p refl,
     )
 
 pub report-spec : {M : Type 1} → statement M

@@ -51,31 +51,17 @@ returns c =
     let a = c .before .before .before .before .before .before .before .before .before .before .before .before .before .before .before .before .before .before .before .before .before .before .before .before .before .before .args in
     let e = rw m at (sym (ap reportAnswer (c .before .s .given .1)) ∙ r .0) in (
       status-accepted _ _ e,
-      (
-        rw (← m) (r .1 .0),
-        (
-          rw (← m) (r .1 .1 .0),
-          (
-            rw (← m) (r .1 .1 .1 .0),
-            (
-              r .1 .1 .1 .1 .0,
-              (
-                r .1 .1 .1 .1 .1,
-                (
-                  stored _ _ e (λ (k : Reported). k .crop .x) _,
-                  (
-                    stored _ _ e (λ (k : Reported). k .crop .y) _,
-                    (
-                      stored _ _ e (λ (k : Reported). k .crop .width) _,
-                      (stored _ _ e (λ (k : Reported). k .crop .height) _, (ap (λ (k : Answer Reported). recordCount k (a .count .now)) e, values-kept _ _ e _)),
-                    ),
-                  ),
-                ),
-              ),
-            ),
-          ),
-        ),
-      ),
+      rw (← m) (r .1),
+      rw (← m) (r .2),
+      rw (← m) (r .3),
+      r .4,
+      r .5,
+      stored _ _ e (λ (k : Reported). k .crop .x) _,
+      stored _ _ e (λ (k : Reported). k .crop .y) _,
+      stored _ _ e (λ (k : Reported). k .crop .width) _,
+      stored _ _ e (λ (k : Reported). k .crop .height) _,
+      ap (λ (k : Answer Reported). recordCount k (a .count .now)) e,
+      values-kept _ _ e _,
     )
 
 same-length-6 : tie.Need-same-length-6
@@ -100,31 +86,17 @@ returns-2 c =
     let a = c .before .before .before .before .before .before .before .before .before .before .before .before .before .before .before .before .before .before .before .before .before .before .before .before .before .before .before .before .before .before .before .args in
     let e = rw m at (sym (ap reportAnswer (c .before .before .before .before .before .before .e .given .1)) ∙ r .0) in (
       status-refused _ _ e (c .number .ensures),
-      (
-        rw (← m) (r .1 .0),
-        (
-          rw (← m) (r .1 .1 .0),
-          (
-            rw (← m) (r .1 .1 .1 .0),
-            (
-              r .1 .1 .1 .1 .0,
-              (
-                r .1 .1 .1 .1 .1,
-                (
-                  kept _ _ e _ _,
-                  (
-                    kept _ _ e _ _,
-                    (
-                      kept _ _ e _ _,
-                      (kept _ _ e _ _, (c .before .records-needed .ensures ∙ ap (λ (k : Answer Reported). recordCount k (a .count .now)) e, values-told _ _ e _ (c .before .before .before .put-values .ensures))),
-                    ),
-                  ),
-                ),
-              ),
-            ),
-          ),
-        ),
-      ),
+      rw (← m) (r .1),
+      rw (← m) (r .2),
+      rw (← m) (r .3),
+      r .4,
+      r .5,
+      kept _ _ e _ _,
+      kept _ _ e _ _,
+      kept _ _ e _ _,
+      kept _ _ e _ _,
+      c .before .records-needed .ensures ∙ ap (λ (k : Answer Reported). recordCount k (a .count .now)) e,
+      values-told _ _ e _ (c .before .before .before .put-values .ensures),
     )
 
 pub mtb-report-spec : {M : Type 1} → statement M
