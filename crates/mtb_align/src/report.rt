@@ -63,7 +63,7 @@ pub enum ReportAnswer {
     Refused(Error),
 }
 
-// ---- a survey of two packed pairs
+// ---- the shifts of a window
 
 // What makes a shift of the window a rival.
 fn is_rival(counts: Counts, floor: u64, limit: u64) -> bool
