@@ -18,7 +18,7 @@ use Rattle.definitions.specs.Bitmap.{wordsPerRow, bitmapWords, bitOf, wordOf, w
 use Rattle.laws.specs.Bits.{bit-lt, bit-past, bit-zero, bit-shr, bit-or, bit-xor, bit-one-at, bit-one-off}
 use Rattle.laws.specs.Cases.{lt-or-le, eq-or-ne}
 use Rattle.laws.specs.Sizes.{row-inside}
-use Rattle.laws.specs.Sums.{sum-none, sum-more, sum-ext, sum-split, sum-upto, sum-zero, sum-rows, sum-none-in}
+use Rattle.laws.specs.Sums.{sum-none, sum-more, sum-ext, sum-upto, sum-zero, sum-rows, sum-none-in}
 use Rattle.laws.specs.WordsOf.{word-ext, word-bits, bits-same}
 
 -- ---- the words of a row
@@ -278,9 +278,3 @@ row-clear {words} {w} {h} m y l x g = ⊎-elim
     ap (λ (v : ℕ). bitOf v (x % 64)) (List·getD-eq-default {A = ℕ} (rowOf words w y) 0 {n = x / 64} (omega arith))
     ∙ bit-zero (x % 64))
     (lt-or-le x (wordsPerRow w * 64))
-
--- a loop that counts the set columns of f a word at a time: one word more, whose bits are g
-pub count-word : (f g : ℕ → ℕ) (k : ℕ) → ((i : ℕ) → i < 64 → g i ≡ f (k * 64 + i)) → sum (k * 64) f + sum 64 g ≡ sum ((k + 1) * 64) f
-count-word f g k h =
-    let n : (k + 1) * 64 ≡ k * 64 + 64 = omega arith in
-    ap (λ (x : ℕ). sum (k * 64) f + x) (sum-ext 64 g (λ (i : ℕ). f (k * 64 + i)) h) ∙ sym (sum-split (k * 64) 64 f) ∙ ap (λ (x : ℕ). sum x f) (sym n)

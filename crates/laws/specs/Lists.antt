@@ -1,15 +1,15 @@
 -- Laws of lists by index and of images by pixel and by rows: one more, length, element, extensionality.
 -- Assumes nothing.
 use mathlib.Core.Path.{_≡_, refl, sym, ap, _∙_, subst}
-use mathlib.Core.List.{List, [], _∷_, _++_, append-assoc}
+use mathlib.Core.List.{List, [], _∷_, _++_}
 use Prim.Native.Nat.{ℕ, zero, suc, _+_, _*_, _-_, _<_, _≤_}
 use native.Mathlib.Nat.{not-suc-le-zero, suc-mul, zero-mul, mul-le-mul-right, le-refl, le-suc, lt-of-lt-of-le}
 use native.Mathlib.Numerals.{add-one}
 use native.Mathlib.Omega.{arith}
 use native.Mathlib.Decide.{decLt}
 use Rattle.definitions.specs.Build.{build, joined, image}
-use lib.ListN.{length, getD, set, replicate, length-append, List·getD-append, replicate-append-replicate}
-use lib.Seq.{getD-append-add, getD-at, ext-getD, append-snoc, set-at}
+use lib.ListN.{length, getD, replicate, length-append, List·getD-append, replicate-append-replicate}
+use lib.Seq.{getD-append-add, getD-at, ext-getD}
 
 -- an index below n + 1 is n, or below n
 split : {n i : ℕ} {P : Type 0} → i < suc n → (i < n → P) → (i ≡ n → P) → P
@@ -35,18 +35,6 @@ module _ {A : Type 0} where
   unfolding build
   build-length zero f = refl
   build-length (suc n) f = length-append (build n f) (f n ∷ []) ∙ ap (λ (k : ℕ). k + 1) (build-length n f) ∙ add-one n
-
-  -- a turn of a loop that builds between a and what is left: the element that stands at the seam is right already, or is stored
-  pub build-keep : (a rest : List A) (n : ℕ) (f : ℕ → A) → a ++ (build n f ++ f n ∷ rest) ≡ a ++ (build (n + 1) f ++ rest)
-  build-keep a rest n f =
-      ap (λ (l : List A). a ++ l) (sym (append-snoc (build n f) (f n) rest) ∙ ap (λ (l : List A). l ++ rest) (sym (build-more n f)))
-
-  pub build-store : (a rest : List A) (n k : ℕ) (f : ℕ → A) (z : A) → length a + n ≡ k → set (a ++ (build n f ++ z ∷ rest)) k (f n) ≡ a ++ (build (n + 1) f ++ rest)
-  build-store a rest n k f z e =
-      ap (λ (l : List A). set l k (f n)) (sym (append-assoc a (build n f) (z ∷ rest)))
-      ∙ set-at (a ++ build n f) z rest (f n) k (length-append a (build n f) ∙ ap (λ (m : ℕ). length a + m) (build-length n f) ∙ e)
-      ∙ append-assoc a (build n f) (f n ∷ rest)
-      ∙ build-keep a rest n f
 
   pub build-at : (n : ℕ) (f : ℕ → A) (i : ℕ) (d : A) → i < n → getD (build n f) i d ≡ f i
   unfolding build
@@ -125,8 +113,3 @@ module _ {A : Type 0} where
   image-at w h p x y d a b =
       joined-at h w (λ (y : ℕ). build w (λ (x : ℕ). p x y)) d (λ y l. build-length w (λ (x : ℕ). p x y)) y x b a
       ∙ build-at w (λ (x : ℕ). p x y) x d a
-
-  pub image-same : (w h : ℕ) (p q : ℕ → ℕ → A) → ((x y : ℕ) → x < w → y < h → p x y ≡ q x y) → image w h p ≡ image w h q
-  image-same w h p q e =
-      joined-same h (λ (y : ℕ). build w (λ (x : ℕ). p x y)) (λ (y : ℕ). build w (λ (x : ℕ). q x y))
-      (λ y b. build-same w (λ (x : ℕ). p x y) (λ (x : ℕ). q x y) (λ x a. e x y a b))

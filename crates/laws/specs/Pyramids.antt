@@ -118,9 +118,6 @@ module _ (w h : ℕ) where
   third zero = omega (arith, halved-none, samples-none)
   third (suc n) = omega (arith, third n, halved-suc n, samples-quarter n)
 
-  pub samples-le : (k : ℕ) → samplesAt k w h ≤ w * h
-  samples-le k = omega (arith, third k)
-
   pub halved-third : (n : ℕ) → 3 * halvedSamples w h n ≤ w * h
   halved-third n = omega (arith, third n)
 
@@ -180,15 +177,6 @@ module _ (mode : Shrink) (w h : ℕ) (s : List ℕ) where
   unfolding pyramid halvedSamples
   level-part n zero p q = absurd (not-suc-le-zero p)
   level-part n (suc k) p q = rw (start-suc w h k) (joined-part (λ (j : ℕ). levelOf mode w h s (suc j)) (λ (j : ℕ). samplesAt (suc j) w h) halved-length n k q)
-
-  -- and so in a scratch that holds the pyramid from `at` on
-  pub level-stored : (l : List ℕ) (at n k : ℕ) → at + halvedSamples w h n ≤ length l → 1 ≤ k → k ≤ n
-      → take (samplesAt k w h) (drop (at + levelStart w h k) (sets l at (pyramid mode w h s n))) ≡ levelOf mode w h s k
-  level-stored l at n k room p q =
-      sets-part l (pyramid mode w h s n) at (levelStart w h k) (samplesAt k w h)
-      (omega (arith, pyramid-length n))
-      (omega (arith, pyramid-length n, level-end w h k p, halved-le w h k n q))
-      ∙ level-part n k p q
 
 -- ---- a level that is asked for
 

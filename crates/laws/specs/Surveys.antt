@@ -1,4 +1,4 @@
--- A survey row by row: the rivals of one row of the window, as a loop finds them and writes their records. Assumes nothing.
+-- A survey row by row, how many rivals there can be, a record's bytes, and the step of a frame by the shifts of its stack. Assumes nothing.
 use mathlib.Core.Path.{_≡_, refl, sym, ap, ap₂, _∙_}
 use mathlib.Core.Bool.{Bool, true, false, cond, _&&_}
 use mathlib.Core.List.{List, [], _∷_, _++_, append-assoc}
@@ -328,9 +328,6 @@ rivals-window a q k = ⊎-elim
 
 pub rivals-few : (a : Stack) (q : Terms) (k : ℕ) → q .reach ≤ 64 → length (rivals a q k) ≤ 16641
 rivals-few a q k h = let side : suc (2 * q .reach) ≤ 129 = omega arith in omega (arith, rivals-window a q k, mul-le-mul side side)
-
-pub rivals-most : (a : Stack) (q : Terms) (n : ℕ) → q .reach ≤ 64 → n ≤ 16 → sum n (λ (k : ℕ). length (rivals a q k)) ≤ 266256
-rivals-most a q n h few = omega (arith, sum-le n 16641 (λ (k : ℕ). length (rivals a q k)) (λ k _. rivals-few a q k h), mul-le-mul-right 16641 few)
 
 pub frames-few : (a : Stack) (q : Terms) (n : ℕ) → q .reach ≤ 64 → n ≤ 16 → length (joined n (frameRecords a q)) ≤ 266256
 unfolding frameRecords

@@ -6,10 +6,9 @@ use native.Mathlib.Nat.{mod-one, mod-eq-of-lt, eq-or-lt-of-le, le-of-suc-le-suc,
 use native.Mathlib.Numerals.{add-one, one-add}
 use native.Mathlib.Omega.{arith}
 use lib.Arith.{digits-lt}
-use lib.Pow.{high, low, mod-pow-add, shl-exact, pow-add}
-use lib.Bits.{bitOr, or-shifted-r}
+use lib.Pow.{high, low, mod-pow-add, pow-add}
 use Rattle.definitions.specs.Bitmap.{bitOf, wordOf}
-use Rattle.laws.specs.Bits.{bit-mod, bit-past}
+use Rattle.laws.specs.Bits.{bit-mod}
 
 pub word-none : (f : ℕ → ℕ) → wordOf 0 f ≡ 0
 unfolding wordOf
@@ -53,9 +52,6 @@ bit-word (suc n) f h i l =
     (λ (k : i < n). bit-join-low (f n) n (wordOf n f) i r k ∙ bit-word n f (λ j m. h j (omega arith)) i k)
     (eq-or-lt-of-le (le-of-suc-le-suc l))
 
-pub bit-word-past : (n : ℕ) (f : ℕ → ℕ) → ((i : ℕ) → i < n → f i < 2) → (i : ℕ) → n ≤ i → bitOf (wordOf n f) i ≡ 0
-bit-word-past n f h i l = bit-past n (wordOf n f) i (word-lt n f h) l
-
 -- a number is made of its bits
 pub word-bits : (n w : ℕ) → wordOf n (bitOf w) ≡ w % 2 ^ n
 unfolding wordOf bitOf
@@ -67,18 +63,6 @@ word-bits (suc n) w =
 pub bits-same : (n a b : ℕ) → a < 2 ^ n → b < 2 ^ n → ((i : ℕ) → i < n → bitOf a i ≡ bitOf b i) → a ≡ b
 bits-same n a b ha hb h =
     sym (mod-eq-of-lt ha) ∙ sym (word-bits n a) ∙ word-ext n (bitOf a) (bitOf b) h ∙ word-bits n b ∙ mod-eq-of-lt hb
-
--- a loop that sets bit i where f says so: `word |= 1 << i` in a word of n bits, or nothing
-pub word-set : (n i : ℕ) (f : ℕ → ℕ) → ((j : ℕ) → f j < 2) → i < n → f i ≡ 1
-    → bitOr (wordOf i f) ((1 * 2 ^ i) % 2 ^ n) ≡ wordOf (i + 1) f
-word-set n i f h l e =
-    ap (bitOr (wordOf i f)) (shl-exact {a = 1} 1 i n (omega arith) (omega arith))
-    ∙ or-shifted-r 1 i (wordOf i f) (word-lt i f (λ j _. h j))
-    ∙ ap (λ (x : ℕ). x * 2 ^ i + wordOf i f) (sym e)
-    ∙ sym (word-more i f)
-
-pub word-skip : (i : ℕ) (f : ℕ → ℕ) → f i ≡ 0 → wordOf i f ≡ wordOf (i + 1) f
-word-skip i f e = omega (arith, word-more i f, ap (λ (x : ℕ). x * 2 ^ i + wordOf i f) e)
 
 -- in two parts
 pub word-split : (m n : ℕ) (f : ℕ → ℕ) → wordOf (m + n) f ≡ wordOf n (λ i. f (m + i)) * 2 ^ m + wordOf m f

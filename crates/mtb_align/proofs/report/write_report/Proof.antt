@@ -13,9 +13,9 @@ use Rattle.definitions.specs.Refusals.{Check, accepted, refused, answer, report
 use Rattle.definitions.specs.Report.{recordsNeeded, records, recordsBytes, reportCrop}
 use Rattle.laws.specs.Checks.{done, after-accepted, after-refused, refused-for-space, accepted-for-space}
 use Rattle.laws.specs.Crop.{shifts-listed}
-use Rattle.laws.specs.Records.{report-bytes}
+use Rattle.laws.specs.Records.{records-number, report-bytes}
 use Rattle.laws.specs.StackWalks.{free-same}
-use Rattle.laws.specs.Surveys.{rivals-most}
+use Rattle.laws.specs.Surveys.{frames-few}
 use Rattle.laws.specs.Writes.{sets-front}
 use Rattle.mtb_align.specs.Stack.{stackIn}
 use Rattle.mtb_align.specs.Survey.{Reported, termsIn}
@@ -35,8 +35,8 @@ number : (s : tie.Start) → s .args .needed ≡ needs-all s
 number s = s .pre .1 .0 .1 .number
 
 few : (s : tie.Start) → s .args .needed ≤ 266256
-unfolding recordsNeeded
-few s = omega (arith, number s, rivals-most (stack s) (termsIn (s .args .terms)) (s .args .n) (s .pre .0 .1) (s .pre .0 .2 .few))
+unfolding records
+few s = let q = termsIn (s .args .terms) in omega (arith, number s, records-number (stack s) q, frames-few (stack s) q (s .args .n) (s .pre .0 .1) (s .pre .0 .2 .few))
 
 -- the records, and then what was there
 space-front : (s : tie.Start) → 20 * s .args .needed ≤ length (s .args .records .now) → {new : List ℕ} → new ≡ sets (s .args .records .now) 0 (recordsBytes (records (stack s) (termsIn (s .args .terms))))
