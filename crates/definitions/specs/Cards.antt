@@ -1,7 +1,8 @@
--- The calibration cards A to J of 01, joined into one table, by computation.
+-- The calibration cards A to J of 01, joined into one table, by computation. Card A, which names no percentile, is for every one.
 use Prim.Native.Nat.{ℕ}
-use mathlib.Core.Path.{_≡_, refl}
+use mathlib.Core.Path.{_≡_, refl, ap}
 use mathlib.Core.List.{List, [], _∷_}
+use native.Mathlib.Omega.{arith}
 use lib.IntN.{pos, negsuc}
 use Rattle.definitions.specs.Sum.{sum, countIf}
 use Rattle.definitions.specs.Build.{build, joined}
@@ -22,7 +23,7 @@ abbrev cardH : List ℕ
 cardH = 1 ∷ 2 ∷ 3 ∷ []
 
 pub record Cards : Type 0 where
-  pub A : cut [] 50 ≡ 0
+  pub A : (p : ℕ) → cut [] p ≡ 0
   pub B : (cut (200 ∷ []) 50 ≡ 0) × (bitmapsOf 1 (200 ∷ []) (cut (200 ∷ []) 50) 4 .threshold 0 0 ≡ 1)
   pub C : cut (255 ∷ 255 ∷ []) 50 ≡ 256
   pub D : (cut cardD 50 ≡ 11)
@@ -35,10 +36,15 @@ pub record Cards : Type 0 where
   pub I : commonCrop (shift (pos 0) (pos 0) ∷ shift (pos 3) (negsuc 1) ∷ shift (negsuc 0) (pos 1) ∷ []) 10 8 ≡ record { x = 3; y = 1; width = 6; height = 5 }
   pub J : (commonCrop (shift (pos 12) (pos 0) ∷ []) 10 8 .x ≡ 12) × (commonCrop (shift (pos 12) (pos 0) ∷ []) 10 8 .width ≡ 0)
 
+-- A share of no samples is none.
+no-samples : (p : ℕ) → target [] p ≡ 0
+unfolding target
+no-samples p = omega arith
+
 pub cards : Cards
 unfolding sum countIf build joined indexOf source atSources shifted largest commonCrop grey fromRgb mean halvedSample shrink2 bins target binsAdded cut thresholdBit exclusionBit wordsPerRow wordOf packed bitmapsOf logUpTo log2 levels
 cards = record {
-  A = refl;
+  A = λ p. ap (λ (goal : ℕ). binsAdded (bins []) goal 0) (no-samples p);
   B = (refl, refl);
   C = refl;
   D = (refl, refl, refl);
