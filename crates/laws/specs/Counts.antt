@@ -1,4 +1,5 @@
--- Laws of how many elements of a list pass a test: one more, one less, two lists, rows, extensionality, a bound. Assumes nothing.
+-- How many elements of a list pass a test: of none, of one list after another, one more as a loop counts, and never more than there
+-- are. Assumes nothing.
 use mathlib.Core.Path.{_≡_, refl, ap, _∙_}
 use mathlib.Core.Bool.{Bool}
 use mathlib.Core.List.{List, [], _∷_, _++_}

@@ -1,4 +1,5 @@
--- A number made from its bits, and the two laws that tie it to `bitOf`. Assumes nothing.
+-- A number made from its bits: one bit more, the same bits, none set, below a power of two, in two parts, and cut off where all
+-- are clear; and its bits read back, one by one and all together. Assumes nothing.
 use mathlib.Core.Path.{_≡_, refl, sym, ap, ap₂, _∙_}
 use mathlib.Core.Logic.{_⊎_, ⊎-elim}
 use Prim.Native.Nat.{ℕ, zero, suc, _+_, _-_, _*_, _%_, _^_, _≤_, _<_}
