@@ -1,8 +1,9 @@
--- Ordered checks: a check that fails refuses, one that passes leaves the rest, and what an answer says of the value and the buffers.
--- Assumes nothing.
+-- Ordered checks: a check that fails refuses, one that passes leaves the rest, and what an answer says of the checks, the value and
+-- the buffers. Assumes nothing.
 use mathlib.Core.Path.{_≡_, refl, sym, ap, _∙_}
 use mathlib.Core.Bool.{Bool, true, false, cond, not, _||_}
-use mathlib.Core.List.{List, [], _∷_, _++_}
+use mathlib.Core.List.{List, [], _∷_, _++_, List·Memᴰ, List·Memᴰ·not-nil, List·Memᴰ·cases-cons}
+use mathlib.Core.Logic.{⊎-elim}
 use Prim.Native.Nat.{ℕ, _*_, _<_, _≤_}
 use native.Mathlib.Omega.{arith}
 use lib.Dec.{ltb}
@@ -17,6 +18,16 @@ not-both {A} {X} {a} {n} {v} e = let z : _≡_ {A = ℕ} 0 1 = cc in absurd (non
   where
     none : _≡_ {A = ℕ} 0 1 → ⊥
     none h = omega arith
+
+-- an answer says what it has
+pub same-value : {A : Type 0} {a b : A} → accepted a ≡ accepted b → a ≡ b
+same-value e = cc
+
+pub same-number : {A : Type 0} {m n : ℕ} {v w : List ℕ} → _≡_ {A = Answer A} (refused m v) (refused n w) → m ≡ n
+same-number e = cc
+
+pub same-values : {A : Type 0} {m n : ℕ} {v w : List ℕ} → _≡_ {A = Answer A} (refused m v) (refused n w) → v ≡ w
+same-values e = cc
 
 -- ---- one check
 
@@ -131,6 +142,47 @@ sides-within w h e = on (ltb 8192 w) refl e
     on : (t : Bool) → ltb 8192 w ≡ t → (t || ltb 8192 h) ≡ false → (w ≤ 8192) × (h ≤ 8192)
     on true p q = clash q
     on false p q = (ltb-false 8192 w p, ltb-false 8192 h q)
+
+-- ---- which check it was
+
+-- the first of some checks that fails, with its number and values: all before it pass
+pub record FirstFails (l : List Check) (number : ℕ) (values : List ℕ) : Type 0 where
+  pub before : List Check
+  pub check : Check
+  pub rest : List Check
+  pub split : l ≡ before ++ (check ∷ rest)
+  pub pass : (c : Check) → List·Memᴰ c before → c .fails ≡ false
+  pub fails : check .fails ≡ true
+  pub says : (check .number ≡ number) × (check .values ≡ values)
+
+module _ {A : Type 0} (a : A) where
+  -- a refusal is that of the first check that fails
+  pub first-fails : (l : List Check) {n : ℕ} {v : List ℕ} → answer l a ≡ refused n v → FirstFails l n v
+  unfolding answer
+  first-fails [] e = not-both e
+  first-fails (c ∷ l) {n} {v} e = on (c .fails) refl e (first-fails l)
+    where
+      on : (t : Bool) → c .fails ≡ t → cond t (refused (c .number) (c .values)) (answer l a) ≡ refused n v → (answer l a ≡ refused n v → FirstFails l n v)
+          → FirstFails (c ∷ l) n v
+      on true p q ih = record { before = []; check = c; rest = l; split = refl; pass = λ d m. absurd (List·Memᴰ·not-nil m); fails = p; says = (cc, cc) }
+      on false p q ih =
+          let f = ih q in
+          record {
+            before = c ∷ f .before;
+            check = f .check;
+            rest = f .rest;
+            split = ap (λ (k : List Check). c ∷ k) (f .split);
+            pass = λ d m. ⊎-elim (λ (i : d ≡ c). ap (λ (k : Check). k .fails) i ∙ p) (λ (i : List·Memᴰ d (f .before)). f .pass d i) (List·Memᴰ·cases-cons m);
+            fails = f .fails;
+            says = f .says;
+          }
+
+  -- an accepted call passed every check
+  pub all-pass : (l : List Check) {b : A} → answer l a ≡ accepted b → (c : Check) → List·Memᴰ c l → c .fails ≡ false
+  all-pass [] e c m = absurd (List·Memᴰ·not-nil m)
+  all-pass (d ∷ l) e c m =
+      let p = passed a d l e in
+      ⊎-elim (λ (i : c ≡ d). ap (λ (k : Check). k .fails) i ∙ p .0) (λ (i : List·Memᴰ c l). all-pass l (p .1) c i) (List·Memᴰ·cases-cons m)
 
 -- ---- from the checks alone to the answer and the buffers
 

@@ -30,3 +30,10 @@ module _ (l : List Check) (need : ℕ) {old new : List ℕ} where
 
   pub scratch-kept : {n : ℕ} {v : List ℕ} → refused n v ≡ answer l (tt {0}) → new ≡ old → Scratch l need old new
   scratch-kept e f = subst (λ (X : Type 0). X) (sym (after-refused (tt {0}) l (FreeUpTo need old new) (new ≡ old) (sym e))) f
+
+  -- back
+  pub free-after : answer l (tt {0}) ≡ accepted tt → Scratch l need old new → FreeUpTo need old new
+  free-after e s = subst (λ (X : Type 0). X) (after-accepted (tt {0}) l (FreeUpTo need old new) (new ≡ old) e) s
+
+  pub kept-after : {n : ℕ} {v : List ℕ} → answer l (tt {0}) ≡ refused n v → Scratch l need old new → new ≡ old
+  kept-after e s = subst (λ (X : Type 0). X) (after-refused (tt {0}) l (FreeUpTo need old new) (new ≡ old) e) s
