@@ -1,7 +1,7 @@
 -- Small examples of what the cards leave open, by computation.
 use Prim.Native.Nat.{ℕ}
 use mathlib.Core.Path.{_≡_, refl}
-use mathlib.Core.List.{[], _∷_}
+use mathlib.Core.List.{List, [], _∷_}
 use lib.IntN.{pos, negsuc}
 use Rattle.definitions.specs.Sum.{sum, countIf}
 use Rattle.definitions.specs.Build.{build, joined, keepIf}
@@ -11,7 +11,7 @@ use Rattle.definitions.specs.Threshold.{bins, target, binsAdded, cut, th
 use Rattle.definitions.specs.Bitmap.{wordsPerRow, bitOf, bitAt}
 use Rattle.definitions.specs.Difference.{Bitmaps, bitmapsOf, bitmapsIn, comparedBit, disagreeingBit, overlap, counts}
 use Rattle.definitions.specs.Align.{Stack, shift, logUpTo, log2, levels, tried, leastFrom, earliestLeast, refine, bitmapsAt, countsAt, stepAt, step, stackOf, exposure, neighbour, walk, stepOf}
-use Rattle.definitions.specs.Report.{Terms, window, isRival, survey, frameCounts, limitOf, rivals, bytes32, twosComplement, recordBytes, verdict}
+use Rattle.definitions.specs.Report.{Terms, window, isRival, survey, frameCounts, limitOf, rivals, Record, bytes32, twosComplement, recordBytes, fieldOf, signedOf, recordAt, verdict}
 use Rattle.definitions.specs.Refusals.{answer, refused, sideOver, wrongLength, percentileOver, noReference, framesOver, cutChecks, pairDiffers, framesChecks}
 
 -- A pixel whose threshold bit and exclusion bit are these.
@@ -65,11 +65,16 @@ walk-and-neighbour : (walk 2 5 ≡ 1 ∷ 0 ∷ 3 ∷ 4 ∷ []) × (neighbour 2 4
 unfolding build walk neighbour
 walk-and-neighbour = (refl, refl, refl)
 
--- A record of frame 1 at (-1, 2) with 3 of 260.
-bytes-of-a-record : recordBytes (record { frame = 1; shift = shift (negsuc 0) (pos 2); counts = record { disagreeing = 3; compared = 260 } })
-    ≡ 1 ∷ 0 ∷ 0 ∷ 0 ∷ 255 ∷ 255 ∷ 255 ∷ 255 ∷ 2 ∷ 0 ∷ 0 ∷ 0 ∷ 3 ∷ 0 ∷ 0 ∷ 0 ∷ 4 ∷ 1 ∷ 0 ∷ 0 ∷ []
-unfolding bytes32 twosComplement recordBytes
-bytes-of-a-record = refl
+-- A record of frame 1 at (-1, 2) with 3 of 260, and its bytes.
+abbrev one : Record
+one = record { frame = 1; shift = shift (negsuc 0) (pos 2); counts = record { disagreeing = 3; compared = 260 } }
+
+abbrev twenty : List ℕ
+twenty = 1 ∷ 0 ∷ 0 ∷ 0 ∷ 255 ∷ 255 ∷ 255 ∷ 255 ∷ 2 ∷ 0 ∷ 0 ∷ 0 ∷ 3 ∷ 0 ∷ 0 ∷ 0 ∷ 4 ∷ 1 ∷ 0 ∷ 0 ∷ []
+
+bytes-of-a-record : (recordBytes one ≡ twenty) × (recordAt twenty 0 ≡ one)
+unfolding bytes32 twosComplement recordBytes fieldOf signedOf recordAt
+bytes-of-a-record = (refl, refl)
 
 -- A wrong length and a percentile over 100: 2 comes first.
 first-check-first : answer {A = ℕ} (cutChecks 2 2 3 101) 0 ≡ refused 2 []

@@ -1,11 +1,11 @@
--- The report: the rivals of each step, their records, and the verdicts.
+-- The report: the rivals of each step, their records as bytes and back, and the verdicts.
 use Prim.Native.Nat.{ℕ, suc, _+_, _-_, _*_, _/_, _%_, _≤_, _<_}
 use mathlib.Core.Path.{_≡_}
 use mathlib.Core.Bool.{Bool, cond, _&&_}
 use mathlib.Core.List.{List, [], _∷_, _++_, map}
 use lib.Dec.{ltb, leb, eqb}
 use lib.IntN.{ℤ, pos, negsuc, natAbs, _+ℤ_, _-ℤ_}
-use lib.ListN.{length}
+use lib.ListN.{length, getD}
 use lib.Signed.{_<ℤ_}
 use Rattle.definitions.specs.Sum.{sum}
 use Rattle.definitions.specs.Build.{build, joined, image, keepIf}
@@ -108,6 +108,26 @@ recordBytes e =
 unfoldable pub recordsBytes : List Record → List ℕ
 recordsBytes [] = []
 recordsBytes (e ∷ l) = recordBytes e ++ recordsBytes l
+
+-- ---- records read back from bytes
+
+-- Field f of record i, of the five in order: 32 bits, low byte first.
+unfoldable pub fieldOf : List ℕ → ℕ → ℕ → ℕ
+fieldOf bytes i f =
+    let at = 20 * i + 4 * f in
+    getD bytes at 0 + 256 * getD bytes (at + 1) 0 + 65536 * getD bytes (at + 2) 0 + 16777216 * getD bytes (at + 3) 0
+
+-- 32 bits as a whole number, by two's complement.
+unfoldable pub signedOf : ℕ → ℤ
+signedOf n = cond (ltb n 2147483648) (pos n) (negsuc (4294967295 - n))
+
+-- Record i.
+unfoldable pub recordAt : List ℕ → ℕ → Record
+recordAt bytes i = record {
+  frame = fieldOf bytes i 0;
+  shift = record { x = signedOf (fieldOf bytes i 1); y = signedOf (fieldOf bytes i 2) };
+  counts = record { disagreeing = fieldOf bytes i 3; compared = fieldOf bytes i 4 };
+}
 
 -- ---- verdicts
 

@@ -87,6 +87,10 @@ module _ (a : Stack) (x y : ℕ) where
   unfolding shifts
   shifts-length = build-length (a .frames) (shiftOf a)
 
+  pub report-crop-in-frame : Place (reportCrop a) x y → (x < a .width) × (y < a .height)
+  unfolding reportCrop
+  report-crop-in-frame p = crop-in-frame (shifts a) (a .width) (a .height) x y p
+
   pub report-crop-covered : Place (reportCrop a) x y → CoveredByFrames a x y
   unfolding reportCrop
   report-crop-covered p k h = subst (λ (s : Shift). Covers (a .width) (a .height) s x y) (shift-at k h)

@@ -40,6 +40,7 @@ pub mod ChecksStack
 pub mod StackWalks
 pub mod ChecksReport
 pub mod Surveys
+pub mod ReadBack
 pub mod Kept
 pub mod Bands
 pub mod Demand

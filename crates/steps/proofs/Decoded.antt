@@ -1,118 +1,26 @@
--- Records that are read back from their bytes. Assumes nothing.
+-- The records of a frame among those that are read back from their bytes. Assumes nothing.
 use mathlib.Core.Path.{_≡_, refl, sym, ap, ap₂, _∙_}
 use mathlib.Core.Bool.{Bool, true, false, cond}
-use mathlib.Core.List.{List, [], _∷_, _++_, map, append-assoc, append-nil, List·Memᴰ, List·Memᴰ·head, List·Memᴰ·tail}
+use mathlib.Core.List.{List, [], _∷_, _++_, map, append-assoc, append-nil}
 use mathlib.Core.Logic.{⊎-elim}
-use Prim.Native.Nat.{ℕ, zero, suc, _+_, _-_, _*_, _/_, _%_, _≤_, _<_}
+use Prim.Native.Nat.{ℕ, zero, suc, _+_, _≤_, _<_}
 use native.Mathlib.Nat.{not-suc-le-zero}
 use native.Mathlib.Omega.{arith}
-use borrow.Author.Tests.{lt-ltb, le-ltb, eq-eqb, ne-eqb}
+use borrow.Author.Tests.{eq-eqb, ne-eqb}
 use lib.Dec.{eqb}
-use lib.IntN.{ℤ, pos, negsuc}
-use lib.ListN.{length, getD}
-use lib.Seq.{getD-append-add}
+use lib.ListN.{length}
 use Rattle.definitions.specs.Build.{build, joined, keepIf}
-use Rattle.definitions.specs.Geometry.{ahead, behind, Shift}
+use Rattle.definitions.specs.Geometry.{Shift}
 use Rattle.definitions.specs.Align.{Stack}
-use Rattle.definitions.specs.Report.{Terms, frameCounts, rivals, Record, frameRecords, records, bytes32, twosComplement, recordBytes, recordsBytes}
+use Rattle.definitions.specs.Report.{Terms, frameCounts, rivals, Record, frameRecords, records, recordsBytes, recordAt}
 use Rattle.laws.specs.Cases.{lt-or-le}
-use Rattle.laws.specs.Lists.{build-is}
-use Rattle.laws.specs.Records.{record-length}
+use Rattle.laws.specs.ReadBack.{records-read}
+use Rattle.laws.specs.Steps.{Small}
 use Rattle.laws.specs.Surveys.{keep-joined, keep-none, keep-more, keep-count, keep-few}
 use Rattle.steps.specs.Text.{recordLine, recordLines}
-use Rattle.steps.specs.Inner.{fieldOf, signedOf, recordAt, recordsOf}
+use Rattle.steps.specs.Inner.{recordsOf}
 
--- ---- one record
-
--- four bytes are their number
-digits : (n a b c r s t : ℕ) → n ≡ 256 * a + r → a ≡ 256 * b + s → b ≡ 256 * c + t → r + 256 * s + 65536 * t + 16777216 * c ≡ n
-digits n a b c r s t p q u = omega arith
-
-four : (n : ℕ) → n < 4294967296 → n % 256 + 256 * (n / 256 % 256) + 65536 * (n / 65536 % 256) + 16777216 * (n / 16777216 % 256) ≡ n
-four n h =
-    let top : n / 16777216 % 256 ≡ n / 16777216 = omega arith in
-    ap (λ (k : ℕ). n % 256 + 256 * (n / 256 % 256) + 65536 * (n / 65536 % 256) + 16777216 * k) top
-    ∙ digits n (n / 256) (n / 65536) (n / 16777216) (n % 256) (n / 256 % 256) (n / 65536 % 256) (omega arith) (omega arith) (omega arith)
-
--- 32 bits are their whole number
-pub signed : (z : ℤ) → ahead z < 2147483648 → behind z ≤ 2147483648 → signedOf (twosComplement z) ≡ z
-unfolding signedOf twosComplement
-signed (pos n) h k = ap (λ (t : Bool). cond t (pos n) (negsuc (4294967295 - n))) (lt-ltb n 2147483648 h)
-signed (negsuc n) h k =
-    let m = 4294967295 - n in
-    let e : 4294967295 - m ≡ n = omega arith in
-    ap (λ (t : Bool). cond t (pos m) (negsuc (4294967295 - m))) (le-ltb m 2147483648 (omega arith)) ∙ ap negsuc e
-
--- a record whose numbers 32 bits hold
-pub record Held (e : Record) : Type 0 where
-  pub frame : e .frame < 4294967296
-  pub right : ahead (e .shift .x) < 2147483648
-  pub left : behind (e .shift .x) ≤ 2147483648
-  pub down : ahead (e .shift .y) < 2147483648
-  pub up : behind (e .shift .y) ≤ 2147483648
-  pub disagreeing : e .counts .disagreeing < 4294967296
-  pub compared : e .counts .compared < 4294967296
-
-complement-held : (z : ℤ) → ahead z < 2147483648 → behind z ≤ 2147483648 → twosComplement z < 4294967296
-unfolding twosComplement
-complement-held (pos n) h k = omega arith
-complement-held (negsuc n) h k = omega arith
-
--- the first record
-first : (e : Record) (rest : List ℕ) → Held e → recordAt (recordBytes e ++ rest) 0 ≡ e
-unfolding recordAt fieldOf recordBytes bytes32
-first e rest h =
-    let coordinate : (z : ℤ) → ahead z < 2147483648 → behind z ≤ 2147483648
-    → signedOf (let n = twosComplement z in n % 256 + 256 * (n / 256 % 256) + 65536 * (n / 65536 % 256) + 16777216 * (n / 16777216 % 256)) ≡ z
-    = λ z a b. ap signedOf (four (twosComplement z) (complement-held z a b)) ∙ signed z a b in
-    λ i. record {
-      frame = four (e .frame) (h .frame) i;
-      shift = record { x = coordinate (e .shift .x) (h .right) (h .left) i; y = coordinate (e .shift .y) (h .down) (h .up) i };
-      counts = record { disagreeing = four (e .counts .disagreeing) (h .disagreeing) i; compared = four (e .counts .compared) (h .compared) i };
-    }
-
--- those after it
-module _ (e : Record) (rest : List ℕ) where
-  byte-after : (n m : ℕ) → m ≡ 20 + n → getD (recordBytes e ++ rest) m 0 ≡ getD rest n 0
-  byte-after n m q =
-      let p : m ≡ length (recordBytes e) + n = q ∙ ap (λ (k : ℕ). k + n) (sym (record-length e)) in
-      ap (λ (k : ℕ). getD (recordBytes e ++ rest) k 0) p ∙ getD-append-add (recordBytes e) rest n 0
-
-  field-after : (i f : ℕ) → fieldOf (recordBytes e ++ rest) (suc i) f ≡ fieldOf rest i f
-  unfolding fieldOf
-  field-after i f =
-      let at = 20 * i + 4 * f in
-      let b : (k : ℕ) → getD (recordBytes e ++ rest) (20 * suc i + 4 * f + k) 0 ≡ getD rest (at + k) 0 = λ k. byte-after (at + k) (20 * suc i + 4 * f + k) (omega arith) in
-      omega (arith, byte-after at (20 * suc i + 4 * f) (omega arith), b 1, b 2, b 3)
-
-  after : (i : ℕ) → recordAt (recordBytes e ++ rest) (suc i) ≡ recordAt rest i
-  unfolding recordAt
-  after i =
-      let f = field-after i in
-      λ j. record {
-        frame = f 0 j;
-        shift = record { x = signedOf (f 1 j); y = signedOf (f 2 j) };
-        counts = record { disagreeing = f 3 j; compared = f 4 j };
-      }
-
--- ---- all records
-
-abbrev pub AllHeld : List Record → Type 0
-AllHeld l = (e : Record) → List·Memᴰ e l → Held e
-
-record-at : (l : List Record) (rest : List ℕ) → AllHeld l → (d : Record) (i : ℕ) → i < length l → getD l i d ≡ recordAt (recordsBytes l ++ rest) i
-unfolding recordsBytes
-record-at [] rest h d i k = absurd (not-suc-le-zero k)
-record-at (e ∷ l) rest h d zero k =
-    sym (ap (λ (b : List ℕ). recordAt b 0) (append-assoc (recordBytes e) (recordsBytes l) rest) ∙ first e (recordsBytes l ++ rest) (h e (List·Memᴰ·head refl)))
-record-at (e ∷ l) rest h d (suc i) k =
-    record-at l rest (λ x m. h x (List·Memᴰ·tail m)) d i (omega arith)
-    ∙ sym (ap (λ (b : List ℕ). recordAt b (suc i)) (append-assoc (recordBytes e) (recordsBytes l) rest) ∙ after e (recordsBytes l ++ rest) i)
-
-decoded : (l : List Record) (rest : List ℕ) → AllHeld l → build (length l) (recordAt (recordsBytes l ++ rest)) ≡ l
-decoded l rest h = sym (build-is (length l) (recordAt (recordsBytes l ++ rest)) l (recordAt [] 0) refl (record-at l rest h (recordAt [] 0)))
-
--- ---- those of a frame
+-- ---- those of a report
 
 module _ {A : Type 0} where
   none-but : (n k : ℕ) (r : ℕ → List A) → n ≤ k → ((j : ℕ) → (j ≡ k → ⊥) → r j ≡ []) → joined n r ≡ []
@@ -157,12 +65,12 @@ module _ (a : Stack) (q : Terms) (k : ℕ) where
       ∙ ap (λ (t : Bool). cond t (frameRecords a q k) []) (eq-eqb k k refl)
 
   -- those that are read back are those of the report
-  pub records-of : (rest : List ℕ) (n : ℕ) → AllHeld (records a q) → n ≡ length (records a q) → k < a .frames
+  pub records-of : Small a → q .reach ≤ 64 → (rest : List ℕ) (n : ℕ) → n ≡ length (records a q) → k < a .frames
       → recordsOf (recordsBytes (records a q) ++ rest) n k ≡ frameRecords a q k
   unfolding recordsOf
-  records-of rest n h e l =
+  records-of small reach rest n e l =
       ap (λ (m : ℕ). keepIf ofFrame (build m (recordAt (recordsBytes (records a q) ++ rest)))) e
-      ∙ ap (keepIf ofFrame) (decoded (records a q) rest h)
+      ∙ ap (keepIf ofFrame) (records-read a q small reach rest)
       ∙ frame-kept l
 
 -- ---- a loop over the records

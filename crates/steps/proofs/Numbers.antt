@@ -13,7 +13,7 @@ use Rattle.definitions.specs.Geometry.{behind}
 use Rattle.laws.specs.Cases.{lt-or-le}
 use Rattle.laws.specs.Whole.{alone, lt-true, lt-false}
 use Rattle.steps.specs.Text.{ascii, placesUpTo, decimal, integer}
-use Rattle.steps.specs.Inner.{signedOf}
+use Rattle.definitions.specs.Report.{signedOf}
 
 -- a power of ten is ten times the one before
 ten : (k : ℕ) → 10 ^ suc k ≡ 10 * 10 ^ k

@@ -6,7 +6,7 @@ use mathlib.Core.Logic.{⊎-elim}
 use Prim.Native.Nat.{ℕ, zero, suc, _+_, _-_, _*_, _/_, _%_, _≤_, _<_}
 use native.Mathlib.Omega.{arith}
 use borrow.Author.Tests.{lt-ltb, le-ltb, eq-eqb, ne-eqb}
-use lib.IntN.{ℤ, natAbs, _-ℤ_}
+use lib.IntN.{ℤ, natAbs}
 use lib.ListN.{length, getD, drop, replicate, length-replicate, getD-replicate}
 use lib.Dec.{eqb}
 use Rattle.definitions.specs.Build.{build, joined}
@@ -14,22 +14,21 @@ use Rattle.definitions.specs.Geometry.{Shift, Rect, origin, listed}
 use Rattle.definitions.specs.Sum.{sum}
 use Rattle.definitions.specs.Shrink.{sideAt, samplesAt, halvedSamples}
 use Rattle.definitions.specs.Bitmap.{wordsPerRow}
-use Rattle.definitions.specs.Difference.{Counts}
-use Rattle.definitions.specs.Align.{Options, Stack, logUpTo, log2, levels, stackOf, neighbour, walk, stepOf, shiftOf, shifts, stepBytes, stepWords}
+use Rattle.definitions.specs.Align.{Options, Stack, logUpTo, log2, levels, stackOf, neighbour, walk, shiftOf, shifts, stepBytes, stepWords}
 use Rattle.definitions.specs.Refusals.{Check, Answer, answer, after, accepted, refused, sideOver, wrongLength, percentileOver, noReference, framesOver, scratchShort, reachOver, pairDiffers, framesChecks, stackScratchChecks, surveyChecks, reportChecks}
 use Rattle.definitions.specs.Report.{Terms, rivals, Record, records, recordsNeeded, verdict, verdicts, reportCrop, recordsBytes}
 use Rattle.laws.specs.Cases.{lt-or-le}
-use Rattle.laws.specs.Checks.{not-both, accepted-too, refused-too, after-accepted, after-refused, accepted-for-space}
+use Rattle.laws.specs.Checks.{not-both, same-value, same-number, accepted-too, refused-too, after-accepted, after-refused, accepted-for-space}
 use Rattle.laws.specs.ChecksReport.{refused-before}
 use Rattle.laws.specs.Lists.{build-at, joined-same}
+use Rattle.laws.specs.ReadBack.{record-near, record-few}
 use Rattle.laws.specs.Records.{records-name, records-number, rivals-none}
-use Rattle.laws.specs.Steps.{Small, step-of-small, abs-parts}
+use Rattle.laws.specs.Steps.{Small}
 use Rattle.laws.specs.Sums.{sum-first, sum-le}
-use Rattle.laws.specs.Surveys.{frame-counts-few, rivals-window, listed-x, listed-y}
-use Rattle.laws.specs.Whole.{alone, minus}
+use Rattle.laws.specs.Surveys.{rivals-window, listed-x, listed-y}
 use Rattle.steps.specs.Text.{ascii, line, heading, frameLine, recordLines, frameText, reportText, inputOptions, inputStack, inputTerms, badInput, refusalText, text}
 use Rattle.steps.specs.Inner.{frameTextIn}
-use Rattle.steps.proofs.Decoded.{AllHeld, records-of}
+use Rattle.steps.proofs.Decoded.{records-of}
 
 -- ---- one to eight frames of 64 by 64 pass all checks, and none have no reference
 
@@ -99,39 +98,18 @@ module _ (a : Stack) (few : Few a) where
         sum-le m 9 (λ (i : ℕ). f (suc i)) (λ i h. rivals-window a inputTerms (suc i)),
       )
 
-  -- a coordinate within one of a step
-  near : (c z : ℤ) → natAbs c ≤ 8191 → natAbs (z -ℤ c) ≤ 1 → natAbs z ≤ 8192
-  near c z h k = omega (arith, abs-parts c, abs-parts z, abs-parts (z -ℤ c), minus z c, alone z)
-
   -- the records' numbers are small
   pub short : (e : Record) → List·Memᴰ e (records a inputTerms) → Short e
   short e m =
-      let n = records-name a inputTerms e m in
-      let step = step-of-small a small (e .frame) in
-      let counts = frame-counts-few a (e .frame) (e .shift) in
+      let near = record-near a inputTerms small e m in
+      let counts = record-few a inputTerms e m in
       let pixels : a .height * a .width ≡ 4096 = ap₂ _*_ (few .high) (few .wide) in
       record {
-        frame = omega (arith, n .frame, few .most);
-        across = near (stepOf a (e .frame) .x) (e .shift .x) (step .across) (n .rival .across);
-        down = near (stepOf a (e .frame) .y) (e .shift .y) (step .down) (n .rival .down);
-        disagreeing = omega (arith, ap (λ (c : Counts). c .disagreeing) (n .counts), counts .0, pixels);
-        compared = omega (arith, ap (λ (c : Counts). c .compared) (n .counts), counts .1, pixels);
-      }
-
-  -- so that 32 bits hold them
-  records-held : AllHeld (records a inputTerms)
-  records-held e m =
-      let s = short e m in
-      let x = abs-parts (e .shift .x) in
-      let y = abs-parts (e .shift .y) in
-      record {
-        frame = omega (arith, s .frame);
-        right = omega (arith, s .across);
-        left = omega (arith, s .across);
-        down = omega (arith, s .down);
-        up = omega (arith, s .down);
-        disagreeing = omega (arith, s .disagreeing);
-        compared = omega (arith, s .compared);
+        frame = omega (arith, records-name a inputTerms e m .frame, few .most);
+        across = near .across;
+        down = near .down;
+        disagreeing = omega (arith, counts .0, pixels);
+        compared = omega (arith, counts .1, pixels);
       }
 
   -- ---- its text, from what a report writes
@@ -147,7 +125,7 @@ module _ (a : Stack) (few : Few a) where
         let x = listed-x (build (a .frames) (shiftOf a)) k ∙ ap (λ (s : Shift). s .x) shift in
         let y = listed-y (build (a .frames) (shiftOf a)) k ∙ ap (λ (s : Shift). s .y) shift in
         let v = build-at (a .frames) (verdict a inputTerms) k 0 h in
-        let l = records-of a inputTerms k rest (recordsNeeded a inputTerms) records-held (sym (records-number a inputTerms)) h in
+        let l = records-of a inputTerms k small (omega arith) rest (recordsNeeded a inputTerms) (sym (records-number a inputTerms)) h in
         λ i. frameLine k (record { x = x i; y = y i }) (v i) (length (l i)) ++ recordLines (l i)
 
     pub report-read : heading (a .frames) (reportCrop a) ++ joined (a .frames) (frameTextIn (listed (shifts a)) (verdicts a inputTerms) bytes (recordsNeeded a inputTerms)) ≡ reportText a inputTerms
@@ -185,12 +163,6 @@ module _ (input : List ℕ) (n : ℕ) (whole : length input ≡ n * 4096) (most 
       sym (rw (good, ne-eqb (length input) 0 (λ z. omega arith), e))
 
 -- ---- a call of the report on n frames of an input
-
-same : {A : Type 0} {a b : A} → accepted a ≡ accepted b → a ≡ b
-same e = cc
-
-same-number : {A : Type 0} {m n : ℕ} {v w : List ℕ} → _≡_ {A = Answer A} (refused m v) (refused n w) → m ≡ n
-same-number e = cc
 
 -- what it is given
 pub record Call (n : ℕ) (input widths heights : List ℕ) (percentile bits shiftList verdictList reach : ℕ) (o : Options) (q : Terms) : Type 0 where
@@ -265,7 +237,7 @@ module _ {n : ℕ} {input widths heights : List ℕ} {percentile bits shiftList 
   -- so an answer tells whether there are frames
   pub answered : {A : Type 0} {x a : A} → accepted x ≡ answer checks a → (1 ≤ n) × (x ≡ a)
   answered {A} {x} {a} e = ⊎-elim
-      (λ (l : 0 < n). (l, same (e ∙ all-accepted l a)))
+      (λ (l : 0 < n). (l, same-value (e ∙ all-accepted l a)))
       (λ (l : n ≤ 0). let z : n ≡ 0 = omega arith in not-both (e ∙ none-refused z a))
       (lt-or-le 0 n)
 

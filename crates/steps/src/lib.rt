@@ -15,12 +15,13 @@ ghost use lib.ListN.{length, getD, take, drop, replicate};
 ghost use Rattle.definitions.specs.Build.{joined};
 ghost use Rattle.definitions.specs.Geometry.{listed};
 ghost use Rattle.definitions.specs.Align as stacks;
+ghost use Rattle.definitions.specs.Report.{fieldOf, signedOf, recordAt};
 ghost use Rattle.definitions.specs.Report as reports;
 ghost use Rattle.mtb_align.specs.Answers.{rectIn};
 ghost use Rattle.mtb_align.specs.Search.{optionsIn};
 ghost use Rattle.mtb_align.specs.Survey.{termsIn};
 ghost use Rattle.steps.specs.Text.{ascii, decimal, integer, heading, verdictWord, frameLine, recordLine, recordLines, inputStack, inputOptions, inputTerms, refusalText, text};
-ghost use Rattle.steps.specs.Inner.{Put, fieldOf, signedOf, recordAt, recordsOf, frameTextIn};
+ghost use Rattle.steps.specs.Inner.{Put, recordsOf, frameTextIn};
 
 // ---- text, as far as there is room
 

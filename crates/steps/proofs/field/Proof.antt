@@ -1,7 +1,7 @@
 -- `steps::field` meets its contract. Assumes nothing.
 use borrow.Author.Needs.{needs}
 use native.Mathlib.Omega.{arith}
-use Rattle.steps.specs.Inner.{fieldOf}
+use Rattle.definitions.specs.Report.{fieldOf}
 use Rattle.steps.proofs.field.Statement.{statement}
 use Rattle.steps.proofs.field.Tie as tie
 

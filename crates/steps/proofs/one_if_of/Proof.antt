@@ -4,7 +4,7 @@ use mathlib.Core.Bool.{Bool, cond}
 use Prim.Native.Nat.{ℕ}
 use borrow.Author.Needs.{needs}
 use borrow.Author.Tests.{eq-eqb, ne-eqb}
-use Rattle.steps.specs.Inner.{recordAt}
+use Rattle.definitions.specs.Report.{recordAt}
 use Rattle.steps.proofs.one_if_of.Statement.{statement}
 use Rattle.steps.proofs.one_if_of.Tie as tie
 

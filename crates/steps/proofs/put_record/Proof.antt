@@ -4,7 +4,7 @@ use mathlib.Core.List.{_++_}
 use Prim.Native.Nat.{ℕ}
 use borrow.Author.Needs.{needs}
 use Rattle.steps.specs.Text.{ascii, decimal, integer, line, recordLine}
-use Rattle.steps.specs.Inner.{signedOf, recordAt}
+use Rattle.definitions.specs.Report.{signedOf, recordAt}
 use Rattle.steps.proofs.Puts.{put-then, put-as}
 use Rattle.steps.proofs.put_record.Statement.{statement}
 use Rattle.steps.proofs.put_record.Tie as tie

@@ -7,7 +7,7 @@ use borrow.Author.Needs.{needs}
 use borrow.Author.Tests.{eq-eqb, ne-eqb}
 use lib.Dec.{eqb}
 use Rattle.steps.specs.Text.{recordLine, recordLines}
-use Rattle.steps.specs.Inner.{fieldOf, recordAt}
+use Rattle.definitions.specs.Report.{fieldOf, recordAt}
 use Rattle.steps.proofs.Puts.{put-as, put-none}
 use Rattle.steps.proofs.put_record_of.Statement.{statement}
 use Rattle.steps.proofs.put_record_of.Tie as tie
