@@ -28,9 +28,9 @@ ghost use lib.ListN.{length, getD, take, drop};
 ghost use lib.Seq.{sets};
 ghost use Rattle.definitions.specs.Build.{keepIf};
 ghost use Rattle.definitions.specs.Geometry.{origin, listed, shiftsOf, commonCrop};
-ghost use Rattle.definitions.specs.Align.{stackOf, neighbour, stepOf, stepBytes, stepWords, stackNeed};
+ghost use Rattle.definitions.specs.Align.{neighbour, stepOf, stepBytes, stepWords, stackNeed};
 ghost use Rattle.definitions.specs.Align as stacks;
-ghost use Rattle.definitions.specs.Refusals.{answer, after, FreeUpTo, Scratch, surveyChecks, reportChecks};
+ghost use Rattle.definitions.specs.Refusals.{answer, after, FreeUpTo, surveyChecks, reportChecks};
 ghost use Rattle.definitions.specs.Report.{isRival, survey, rivals, bytes32, twosComplement, recordBytes, recordsBytes, recordsNeeded, frameRecords, verdict, reportCrop};
 ghost use Rattle.definitions.specs.Report as reports;
 ghost use Rattle.definitions.specs.Bitmap.{total};
@@ -42,7 +42,8 @@ ghost use Rattle.laws.specs.Kept.{keptIn, Kept, recordsOf};
 ghost use Rattle.mtb_align.specs.Answers.{outcome, shiftIn, countsIn, rectIn};
 ghost use Rattle.mtb_align.specs.Search.{mapAt, TwoPairs, pairCounts, exposureOf, fourOf, optionsIn};
 ghost use Rattle.mtb_align.specs.Stack.{stackIn, frameIn, Ready};
-ghost use Rattle.mtb_align.specs.Survey.{termsIn, Reported, reportAnswer, Asked, stackAsked, firstChecks, allChecks, reportedOf, recordSpace, bytesNeeded, wordsNeeded, Framed, Placed, Found, sampleOf};
+ghost use Rattle.mtb_align.specs.Survey.{termsIn, Reported, reportAnswer, Framed, Placed, Found, sampleOf};
+ghost use Rattle.mtb_align.specs.Promise.{ReportPromise};
 
 // How far from a step its rivals are sought, how many pixels a rival compares at least, and in how many more than the step it may
 // disagree.
@@ -813,7 +814,8 @@ fn report_within(
 }
 
 // Every rival of each frame's step, a verdict on each frame (0 reference, 1 weak, 2 alone, 3 contested), the stack's shifts and their
-// crop. Refused: as the stack, 9 before 7, and 10 last, with the number of records needed.
+// crop. Refused: as the stack, 9 before 7, and 10 last, with the number of records needed. What a caller is owed by its promise, in
+// 01's words, is `report-owed` of specs/Owed.antt.
 pub fn report(
     widths: &[usize],
     heights: &[usize],
@@ -827,14 +829,36 @@ pub fn report(
     bytes: &mut [u8],
     words: &mut [u64],
 ) -> ReportAnswer
-    ensures { λ r. ⌜
-        (let a : Asked = record { widths = now (widths .entry); heights = now (heights .entry); samples = now (samples .entry); reference = reference; percentile = options .percentile; options = optionsIn options; terms = termsIn terms; shifts = length (now (shifts .entry)); verdicts = length (now (verdicts .entry)); records = length (now (records .entry)); bytes = length (now (bytes .entry)); words = length (now (words .entry)) } in
-        (reportAnswer r ≡ answer (allChecks a) (reportedOf a))
-        × (now (shifts .exit) ≡ after (allChecks a) (listed (stacks.shifts (stackAsked a))) (now (shifts .entry)))
-        × (now (verdicts .exit) ≡ after (allChecks a) (reports.verdicts (stackAsked a) (a .terms)) (now (verdicts .entry)))
-        × (now (records .exit) ≡ after (allChecks a) (recordSpace a (now (records .entry))) (now (records .entry)))
-        × Scratch (firstChecks a) (bytesNeeded a) (now (bytes .entry)) (now (bytes .exit))
-        × Scratch (firstChecks a) (wordsNeeded a) (now (words .entry)) (now (words .exit)))
+    ensures { λ r. ⌜ ReportPromise
+        (record {
+          widths = now (widths .entry);
+          heights = now (heights .entry);
+          samples = now (samples .entry);
+          reference = reference;
+          percentile = options .percentile;
+          options = optionsIn options;
+          terms = termsIn terms;
+          shifts = length (now (shifts .entry));
+          verdicts = length (now (verdicts .entry));
+          records = length (now (records .entry));
+          bytes = length (now (bytes .entry));
+          words = length (now (words .entry));
+        })
+        (reportAnswer r)
+        (record {
+          shifts = now (shifts .entry);
+          verdicts = now (verdicts .entry);
+          records = now (records .entry);
+          bytes = now (bytes .entry);
+          words = now (words .entry);
+        })
+        (record {
+          shifts = now (shifts .exit);
+          verdicts = now (verdicts .exit);
+          records = now (records .exit);
+          bytes = now (bytes .exit);
+          words = now (words .exit);
+        })
         ⌝ }
 {
     match report_fits(
