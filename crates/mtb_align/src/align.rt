@@ -488,7 +488,7 @@ fn step_at(
     ensures { λ _. ⌜ FreeUpTo (stepWords width height) (now (words .entry)) (now (words .exit)) ⌝ }
 {
     if level == last {
-        let around = Shift { x: 0, y: 0 };
+        let around = Shift::ZERO;
         return step_around(
             reference,
             target,
@@ -954,7 +954,7 @@ fn walk_below(
     ensures { λ _. ⌜ FreeUpTo (stackNeed (reference + 1) (stepBytes width height (options .bits))) (now (bytes .entry)) (now (bytes .exit)) ⌝ }
     ensures { λ _. ⌜ FreeUpTo (stackNeed (reference + 1) (stepWords width height)) (now (words .entry)) (now (words .exit)) ⌝ }
 {
-    let mut s = Shift { x: 0, y: 0 };
+    let mut s = Shift::ZERO;
     let mut k = reference;
     while 0 < k {
         let step = frame_step(samples, width, height, k, k - 1, options, bytes, words);
@@ -981,7 +981,7 @@ fn walk_above(
     ensures { λ _. ⌜ FreeUpTo (stackNeed n (stepBytes width height (options .bits))) (now (bytes .entry)) (now (bytes .exit)) ⌝ }
     ensures { λ _. ⌜ FreeUpTo (stackNeed n (stepWords width height)) (now (words .entry)) (now (words .exit)) ⌝ }
 {
-    let mut s = Shift { x: 0, y: 0 };
+    let mut s = Shift::ZERO;
     let mut k = reference + 1;
     while k < n {
         let step = frame_step(samples, width, height, k - 1, k, options, bytes, words);
@@ -1018,7 +1018,7 @@ pub(crate) fn walk(
         bytes,
         words,
     );
-    put_shift(shifts, reference, Shift { x: 0, y: 0 });
+    put_shift(shifts, reference, Shift::ZERO);
     walk_above(
         samples,
         width,
