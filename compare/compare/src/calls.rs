@@ -136,6 +136,8 @@ pub fn row(random: &mut Random, _: usize) -> Outcome {
     let input = format!("{width} by {height}, row {y}");
     let answer = original::row(bitmap, y).unwrap_or_default();
     same(&input, &naive::bitmap::row(bitmap, y).to_vec(), &answer)?;
+    let start = original::row_start(bitmap, y).unwrap_or_default();
+    same(&input, &naive::bitmap::row_place(bitmap, y).start, &start)?;
     same(
         &input,
         &words_per_row(width),

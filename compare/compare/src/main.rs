@@ -9,7 +9,7 @@ use std::process::ExitCode;
 
 use compare::trials::{self, Call, Outcome, call};
 
-const CALLS: [Call; 19] = [
+const CALLS: [Call; 20] = [
     call("from_rgb", 2000, calls::from_rgb),
     call("shrink2", 3000, calls::shrink2),
     call("shifted", 4000, calls::shifted),
@@ -25,6 +25,7 @@ const CALLS: [Call; 19] = [
     call("disagreement", 12000, calls::disagreement),
     call("pyramid", 2000, stacks::pyramid),
     call("level", 2000, stacks::level),
+    call("scratch", 2000, stacks::scratch),
     call("shift", 3000, stacks::shift),
     call("align_stack", 1500, stacks::align_stack),
     call("report", 1200, stacks::report),

@@ -19,6 +19,8 @@ use naive::refusals::{
 use naive::shrink::Shrink;
 use naive::threshold::Packed;
 
+use crate::recount;
+
 /// What the original's panics say, and the refusals that stand for them.
 const PANICS: [(&str, u32); 6] = [
     (" samples, got ", WRONG_LENGTH),
@@ -163,6 +165,11 @@ pub fn shrink2(frame: Frame, shrink: Shrink) -> Result<Vec<u8>, Refusal> {
     })
 }
 
+/// The halved levels. The original's own list of them is private.
+pub fn pyramid(frame: Frame, bits: u32, shrink: Shrink) -> Result<Vec<Vec<u8>>, Refusal> {
+    ask(|| Ok(recount::halved_levels(frame, bits, shrink)))
+}
+
 pub fn shifted(frame: Frame, shift: Shift) -> Result<Vec<u8>, Refusal> {
     ask(|| {
         let moved = gray(frame).shifted(shift_of(shift));
@@ -212,6 +219,15 @@ pub fn count_ones(bitmap: Bitmap) -> Result<u64, Refusal> {
 
 pub fn row(bitmap: Bitmap, y: usize) -> Result<Vec<u64>, Refusal> {
     ask(|| Ok(bitmap_of(bitmap).row(y).to_vec()))
+}
+
+/// How many words stand before those of a row.
+pub fn row_start(bitmap: Bitmap, y: usize) -> Result<usize, Refusal> {
+    ask(|| {
+        let bitmap = bitmap_of(bitmap);
+        let rows = (0..=y).map(|row| bitmap.row(row).len());
+        Ok(rows.sum::<usize>() - bitmap.words_per_row())
+    })
 }
 
 pub fn doubled(shift: Shift) -> Result<Shift, Refusal> {

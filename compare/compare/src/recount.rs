@@ -2,7 +2,7 @@
 //! serve, by brute force where they do not.
 
 use mtb_align::{Bitmap, Bitmaps, Gray, Percentile, Shift, compute_bitmaps, disagreement, shrink2};
-use naive::align::{Options, Stack};
+use naive::align::{Options, Scratch, Stack};
 use naive::geometry::Crop;
 use naive::gray::Frame;
 use naive::report::{Record, Report, Rivalry};
@@ -44,6 +44,18 @@ pub fn halved_levels(frame: Frame, bits: u32, shrink: Shrink) -> Vec<Vec<u8>> {
             finer.as_slice().to_vec()
         })
         .collect()
+}
+
+/// The scratch of a step: the samples of the halved levels of both frames, and the
+/// words of their four bitmaps.
+pub fn scratch(width: usize, height: usize, bits: u32) -> Scratch {
+    let dark = vec![0; width * height];
+    let levels = halved_levels(Frame::new(&dark, width, height), bits, Shrink::Subsample);
+    let bitmap = Bitmap::zeros(width, height);
+    Scratch {
+        bytes: 2 * levels.concat().len(),
+        words: 4 * (0..height).map(|y| bitmap.row(y).len()).sum::<usize>(),
+    }
 }
 
 /// Whether the places of a crop are exactly those that every moved frame covers.

@@ -16,34 +16,55 @@ use crate::same;
 
 pub fn pyramid(random: &mut Random, _: usize) -> Outcome {
     let (width, height) = size(random, 130);
-    let samples = scenes::frame(random, width, height);
+    let samples = samples(random, width, height);
     let frame = Frame::new(&samples, width, height);
     let (bits, mode) = (options(random).bits, shrink(random));
     let scratch = halved_samples(width, height, bits) + random.below(3);
+    let levels = original::pyramid(frame, bits, mode);
     same(
         &format!("{width} by {height}, bits {bits}, {mode:?}"),
         &align::pyramid(frame, bits, mode, scratch),
-        &Ok(recount::halved_levels(frame, bits, mode).concat()),
+        &levels.map(|levels| levels.concat()),
     )
 }
 
-/// Every level and one more, out of a filled scratch.
+/// Every level and one more, out of a filled scratch, and where each stands.
 pub fn level(random: &mut Random, _: usize) -> Outcome {
     let (width, height) = size(random, 130);
     let samples = scenes::frame(random, width, height);
     let frame = Frame::new(&samples, width, height);
     let (bits, mode) = (options(random).bits, shrink(random));
-    let mut levels = vec![samples.clone()];
-    levels.extend(recount::halved_levels(frame, bits, mode));
-    let mut scratch = levels[1..].concat();
+    let halved = recount::halved_levels(frame, bits, mode);
+    let mut scratch = halved.concat();
     scratch.resize(scratch.len() + random.below(3), 99);
-    levels.push(Vec::new());
 
-    let asked: Vec<_> = (0..levels.len())
-        .map(|level| align::level(frame, bits, &scratch, level).to_vec())
+    let mut expected = vec![(samples.clone(), false, 0)];
+    let mut start = 0;
+    for level in halved {
+        start += level.len();
+        expected.push((level.clone(), true, start - level.len()));
+    }
+    expected.push((vec![], false, 0));
+    let asked: Vec<_> = (0..expected.len())
+        .map(|level| {
+            let part = align::level(frame, bits, &scratch, level).to_vec();
+            let place = align::level_place(frame, bits, scratch.len(), level);
+            (part, place.in_scratch, place.part.start)
+        })
         .collect();
     let input = format!("{width} by {height}, bits {bits}, {mode:?}");
-    same(&input, &asked, &levels)
+    same(&input, &asked, &expected)
+}
+
+/// The original asks for none: what it would hold is counted.
+pub fn scratch(random: &mut Random, _: usize) -> Outcome {
+    let (width, height) = size(random, 130);
+    let bits = options(random).bits;
+    same(
+        &format!("{width} by {height}, bits {bits}"),
+        &align::scratch(width, height, bits),
+        &Ok(recount::scratch(width, height, bits)),
+    )
 }
 
 pub fn shift(random: &mut Random, _: usize) -> Outcome {

@@ -1,5 +1,7 @@
 //! Pyramids, the step of two frames, and stacks.
 
+use std::ops::Range;
+
 use crate::bitmap::words_needed;
 use crate::difference::counts;
 use crate::geometry::Shift;
@@ -30,7 +32,8 @@ pub struct Scratch {
 impl Scratch {
     pub const NONE: Self = Self { bytes: 0, words: 0 };
 
-    /// What a step of two frames of this size needs.
+    /// What a step of two frames of this size needs. Ask only after the sides are
+    /// checked.
     pub fn of_step(width: usize, height: usize, bits: u32) -> Self {
         Self {
             bytes: 2 * halved_samples(width, height, bits),
@@ -108,18 +111,44 @@ pub fn pyramid(
     Ok(all_levels(frame, bits, shrink)[1..].concat())
 }
 
+/// A part of one of two lists.
+#[derive(Clone, Debug, PartialEq, Eq)]
+pub struct Place {
+    /// Of the scratch, or else of the frame.
+    pub in_scratch: bool,
+    pub part: Range<usize>,
+}
+
 /// Asking for a level: the frame itself, a part of the scratch, or the empty part.
 pub fn level<'a>(frame: Frame<'a>, bits: u32, scratch: &'a [u8], level: usize) -> &'a [u8] {
-    let refused = check_pyramid(frame, bits, scratch.len()).is_err();
-    if refused || level > levels(frame.width, frame.height, bits) {
-        return &[];
-    }
-    if level == 0 {
-        return frame.samples;
-    }
+    let place = level_place(frame, bits, scratch.len(), level);
+    let list = match place.in_scratch {
+        true => scratch,
+        false => frame.samples,
+    };
+    &list[place.part]
+}
+
+/// Where that level stands: the empty part is at 0 of the frame. `scratch` is its
+/// length.
+pub fn level_place(frame: Frame, bits: u32, scratch: usize, level: usize) -> Place {
     let samples = |level| samples_of(frame.width, frame.height, level);
-    let start = (1..level).map(samples).sum::<usize>();
-    &scratch[start..start + samples(level)]
+    let refused = check_pyramid(frame, bits, scratch).is_err();
+    let (in_scratch, part) = if refused || level > levels(frame.width, frame.height, bits) {
+        (false, 0..0)
+    } else if level == 0 {
+        (false, 0..samples(0))
+    } else {
+        let start = (1..level).map(samples).sum::<usize>();
+        (true, start..start + samples(level))
+    };
+    Place { in_scratch, part }
+}
+
+/// Asking for the scratch of a step: 1.
+pub fn scratch(width: usize, height: usize, bits: u32) -> Result<Scratch, Refusal> {
+    check_sides(&[width, height])?;
+    Ok(Scratch::of_step(width, height, bits))
 }
 
 /// A step: how far the target moves, and the number of comparisons made.

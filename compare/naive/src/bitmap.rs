@@ -1,5 +1,7 @@
 //! Packed bitmaps: 64 pixels a word, lowest bit first, rows padded with clear bits.
 
+use std::ops::Range;
+
 use crate::refusals::{PADDING_SET, PIXEL_OUTSIDE, Refusal, WRONG_LENGTH, check_sides, refuse_if};
 
 pub fn words_per_row(width: usize) -> usize {
@@ -96,9 +98,14 @@ pub fn count_ones(bitmap: Bitmap) -> Result<u64, Refusal> {
 
 /// One row: the empty part where 1, 2 or 11 holds.
 pub fn row(bitmap: Bitmap<'_>, y: usize) -> &[u64] {
+    &bitmap.words[row_place(bitmap, y)]
+}
+
+/// Where that row stands in the words: the empty part is at 0.
+pub fn row_place(bitmap: Bitmap, y: usize) -> Range<usize> {
     if check_size(&bitmap).is_err() || y >= bitmap.height {
-        return &[];
+        return 0..0;
     }
     let length = words_per_row(bitmap.width);
-    &bitmap.words[y * length..(y + 1) * length]
+    y * length..(y + 1) * length
 }

@@ -1,6 +1,6 @@
 //! The twelve refusals and the limits behind them.
 
-/// Why a call was refused. Values come with 4 (of steps and stacks), 5 and 10.
+/// Why a call was refused. Values come with 4, 5 and 10.
 #[derive(Clone, Debug, PartialEq, Eq)]
 pub struct Refusal {
     pub number: u32,

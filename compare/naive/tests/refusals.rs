@@ -1,8 +1,10 @@
 //! Each refusal by its number, with the values it carries, and the order of checks.
 
 use naive::Refusal;
-use naive::align::{Options, Scratch, Stack, align_stack, level, pyramid, shift};
-use naive::bitmap::{Bitmap, count_ones, get, row, set};
+use naive::align::{
+    Options, Place, Scratch, Stack, align_stack, level, level_place, pyramid, scratch, shift,
+};
+use naive::bitmap::{Bitmap, count_ones, get, row, row_place, set};
 use naive::difference::{Counts, Pair, disagreement};
 use naive::geometry::{Shift, common_crop, shifted};
 use naive::gray::{Frame, from_rgb};
@@ -136,6 +138,7 @@ fn refusal_1_side_too_long() {
         assert_eq!(refused(count_ones(bitmap)), 1);
         assert_eq!(refused(common_crop(&[1], width, height)), 1);
         assert_eq!(refused(pyramid(frame, 6, Shrink::Average, 0)), 1);
+        assert_eq!(refused(scratch(width, height, 6)), 1);
         let sound = Frame::new(&[], 0, 0);
         for (reference, target) in [(frame, sound), (sound, frame), (frame, frame)] {
             let step = shift(reference, target, &WRONG_PERCENTILE, Scratch::NONE);
@@ -336,17 +339,45 @@ fn refusal_12_coordinate_outside() {
 #[test]
 fn rows_and_levels_are_empty_where_others_refuse() {
     let words = [1, 2];
-    assert_eq!(row(Bitmap::new(&words, 3, 2), 1), [2]);
-    for (width, height, y) in [(OVER, 1, 0), (3, 3, 0), (3, 2, 2), (0, 2, 0)] {
-        assert_eq!(row(Bitmap::new(&words, width, height), y), []);
+    let bitmap = Bitmap::new(&words, 3, 2);
+    assert_eq!((row(bitmap, 1), row_place(bitmap, 1)), (&[2][..], 1..2));
+    for (width, height, y) in [(OVER, 1, 0), (3, 3, 1), (3, 2, 2), (0, 2, 1)] {
+        let bitmap = Bitmap::new(&words, width, height);
+        assert_eq!((row(bitmap, y), row_place(bitmap, y)), (&[][..], 0..0));
     }
 
-    let (samples, scratch) = ([5; 16], [6, 7, 8, 9, 10]);
-    let frame = Frame::new(&samples, 4, 4);
-    assert_eq!(level(frame, 6, &scratch, 0), samples);
-    assert_eq!(level(frame, 6, &scratch, 1), [6, 7, 8, 9]);
-    assert_eq!(level(frame, 6, &scratch, 2), []);
-    assert_eq!(level(frame, 6, &scratch[..3], 0), []);
-    assert_eq!(level(Frame::new(&samples[..15], 4, 4), 6, &scratch, 0), []);
-    assert_eq!(level(Frame::new(&samples, OVER, 4), 6, &scratch, 0), []);
+    let samples = [5; 64];
+    let scratch: Vec<u8> = (0..21).collect();
+    let frame = Frame::new(&samples, 8, 8);
+    for (number, in_scratch, part) in [(0, false, 0..64), (1, true, 0..16), (2, true, 16..20)] {
+        let list = if in_scratch { &scratch } else { &samples[..] };
+        assert_eq!(level(frame, 6, &scratch, number), &list[part.clone()]);
+        let place = Place { in_scratch, part };
+        assert_eq!(level_place(frame, 6, 20, number), place);
+    }
+    let nowhere = Place {
+        in_scratch: false,
+        part: 0..0,
+    };
+    for (frame, length, number) in [
+        (frame, 20, 3),
+        (frame, 19, 0),
+        (frame, 19, 1),
+        (Frame::new(&samples[1..], 8, 8), 20, 1),
+        (Frame::new(&samples, OVER, 8), 20, 1),
+    ] {
+        assert_eq!(level(frame, 6, &scratch[..length], number), []);
+        assert_eq!(level_place(frame, 6, length, number), nowhere);
+    }
+}
+
+#[test]
+fn the_scratch_of_a_step_is_just_enough() {
+    let samples = [0; 65 * 5];
+    let frame = Frame::new(&samples, 65, 5);
+    // Two levels of 32 by 2 and 16 by 1, twice; four bitmaps of two words a row.
+    let need = scratch(65, 5, 6).unwrap();
+    assert_eq!((need.bytes, need.words), (160, 40));
+    assert!(shift(frame, frame, &OPTIONS, need).is_ok());
+    assert_eq!(scratch(0, 8192, 6), Ok(Scratch::NONE));
 }
