@@ -1,7 +1,6 @@
 //! The two counts of packed pairs.
 
-use naive::difference::Pair;
-use naive::geometry::Shift;
+use crate::{Pair, Shift, Values};
 
 pub fn disagreement(
     reference: Pair,
@@ -9,6 +8,7 @@ pub fn disagreement(
     shift: Shift,
     disagreeing: &mut u64,
     compared: &mut u64,
+    values: &mut Values,
 ) -> u32 {
     unsafe extern "C" {
         fn mtb_disagreement(
@@ -28,6 +28,7 @@ pub fn disagreement(
             y: i32,
             disagreeing: *mut u64,
             compared: *mut u64,
+            values: *mut Values,
         ) -> u32;
     }
     unsafe {
@@ -48,6 +49,7 @@ pub fn disagreement(
             shift.y,
             disagreeing,
             compared,
+            values,
         )
     }
 }

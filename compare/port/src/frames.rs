@@ -1,8 +1,6 @@
 //! Single frames and bitmaps.
 
-use naive::bitmap::Bitmap;
-use naive::gray::Frame;
-use naive::shrink::Shrink;
+use crate::{Bitmap, Frame, Shrink};
 
 pub fn from_rgb(rgb: &[u8], width: usize, height: usize, gray: &mut [u8]) -> u32 {
     unsafe extern "C" {
@@ -174,9 +172,9 @@ pub fn count_ones(bitmap: Bitmap, total: &mut u64) -> u32 {
     }
 }
 
-/// Answers with the number of words of the row, none where it is refused, and puts
-/// them at the front of `out` if they fit.
-pub fn row(bitmap: Bitmap, y: usize, out: &mut [u64]) -> usize {
+/// Answers with the number of words of the row and puts in `start` where they stand
+/// in the bitmap's: both are 0 where the row is none.
+pub fn row(bitmap: Bitmap, y: usize, start: &mut usize) -> usize {
     unsafe extern "C" {
         fn mtb_row(
             words: *const u64,
@@ -184,8 +182,7 @@ pub fn row(bitmap: Bitmap, y: usize, out: &mut [u64]) -> usize {
             width: usize,
             height: usize,
             y: usize,
-            out: *mut u64,
-            out_length: usize,
+            start: *mut usize,
         ) -> usize;
     }
     unsafe {
@@ -195,8 +192,7 @@ pub fn row(bitmap: Bitmap, y: usize, out: &mut [u64]) -> usize {
             bitmap.width,
             bitmap.height,
             y,
-            out.as_mut_ptr(),
-            out.len(),
+            start,
         )
     }
 }

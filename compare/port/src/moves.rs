@@ -1,7 +1,6 @@
 //! Shifts, moved frames and crops.
 
-use naive::geometry::Shift;
-use naive::gray::Frame;
+use crate::{Frame, Shift};
 
 pub fn doubled(shift: Shift, new_x: &mut i32, new_y: &mut i32) -> u32 {
     unsafe extern "C" {

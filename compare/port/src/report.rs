@@ -1,8 +1,6 @@
 //! The report of a stack.
 
-use naive::align::{Options, Stack};
-use naive::report::Rivalry;
-use naive::shrink::Shrink;
+use crate::{Options, Rivalry, Shrink, Stack, Values};
 
 /// What a report writes, the scratch apart.
 pub struct Report<'a> {
@@ -11,19 +9,19 @@ pub struct Report<'a> {
     pub records: &'a mut [u8],
     /// Left, top, width and height.
     pub crop: [&'a mut usize; 4],
-    /// The records written, or those that refusal 10 asks for.
+    /// The number of records.
     pub count: &'a mut usize,
 }
 
-/// Of an accepted call and of one refused by 10, the scratch that it needs holds
-/// anything. A refused call puts its values at the front of `values`.
+/// After an accepted call and one refused by 10, the scratch that it needs holds
+/// anything.
 pub fn report(
     stack: Stack,
     options: &Options,
     rivalry: &Rivalry,
     written: Report,
     (bytes, words): (&mut [u8], &mut [u64]),
-    values: &mut [usize; 5],
+    values: &mut Values,
 ) -> u32 {
     unsafe extern "C" {
         fn mtb_report(
@@ -56,7 +54,7 @@ pub fn report(
             wide: *mut usize,
             high: *mut usize,
             count: *mut usize,
-            values: *mut usize,
+            values: *mut Values,
         ) -> u32;
     }
     let [left, top, wide, high] = written.crop;
@@ -91,7 +89,7 @@ pub fn report(
             wide,
             high,
             written.count,
-            values.as_mut_ptr(),
+            values,
         )
     }
 }

@@ -1,10 +1,8 @@
 //! The step of two frames and the stack.
 
-use naive::align::{Options, Stack};
-use naive::gray::Frame;
-use naive::shrink::Shrink;
+use crate::{Frame, Options, Shrink, Stack, Values};
 
-/// Of an accepted call, the scratch that it needs holds anything.
+/// After an accepted call, the scratch that it needs holds anything.
 pub fn shift(
     reference: Frame,
     target: Frame,
@@ -12,6 +10,7 @@ pub fn shift(
     (bytes, words): (&mut [u8], &mut [u64]),
     (x, y): (&mut i32, &mut i32),
     comparisons: &mut u64,
+    values: &mut Values,
 ) -> u32 {
     unsafe extern "C" {
         fn mtb_shift(
@@ -34,6 +33,7 @@ pub fn shift(
             x: *mut i32,
             y: *mut i32,
             comparisons: *mut u64,
+            values: *mut Values,
         ) -> u32;
     }
     unsafe {
@@ -57,18 +57,18 @@ pub fn shift(
             x,
             y,
             comparisons,
+            values,
         )
     }
 }
 
-/// Of an accepted call, the scratch that it needs holds anything. A refused one puts
-/// its values at the front of `values`.
+/// After an accepted call, the scratch that it needs holds anything.
 pub fn align_stack(
     stack: Stack,
     options: &Options,
     shifts: &mut [i32],
     (bytes, words): (&mut [u8], &mut [u64]),
-    values: &mut [usize; 5],
+    values: &mut Values,
 ) -> u32 {
     unsafe extern "C" {
         fn mtb_align_stack(
@@ -89,7 +89,7 @@ pub fn align_stack(
             bytes_length: usize,
             words: *mut u64,
             words_length: usize,
-            values: *mut usize,
+            values: *mut Values,
         ) -> u32;
     }
     unsafe {
@@ -111,7 +111,7 @@ pub fn align_stack(
             bytes.len(),
             words.as_mut_ptr(),
             words.len(),
-            values.as_mut_ptr(),
+            values,
         )
     }
 }

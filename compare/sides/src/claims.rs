@@ -96,6 +96,15 @@ impl Claim {
         }
     }
 
+    /// The length of a scratch: what is needed, more, or one too few.
+    pub fn scratch(self, random: &mut Random, need: usize) -> usize {
+        match random.below(12) {
+            0 if !self.sound => need.saturating_sub(1),
+            1..4 => need + 1 + random.below(60),
+            _ => need,
+        }
+    }
+
     /// Room of that length or one off.
     pub fn room<T: Element>(self, random: &mut Random, length: usize) -> Lent<T> {
         let length = self.perhaps_wrong(random, length);

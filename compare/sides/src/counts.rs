@@ -10,6 +10,7 @@ use port::counts as port;
 use crate::agreed;
 use crate::claims::Claim;
 use crate::lent::Lent;
+use crate::search::told;
 
 pub fn disagreement(random: &mut Random, case: usize) -> Outcome {
     let claim = Claim::any(random, case, 12);
@@ -32,6 +33,7 @@ pub fn disagreement(random: &mut Random, case: usize) -> Outcome {
     let shift = any_shift(random, claim.made);
     let [mut disagreeing, mut compared] = [(); 2].map(|()| Lent::room(random, 1));
     let [rt, re, tt, te] = &maps;
+    let mut values = Lent::room(random, 5);
     let input =
         format!("{claim} and {target_width} by {target_height}, {rt}, {re}, {tt}, {te}, {shift:?}");
 
@@ -53,6 +55,7 @@ pub fn disagreement(random: &mut Random, case: usize) -> Outcome {
         shift,
         disagreeing.one_mut(),
         compared.one_mut(),
+        values.array_mut(),
     );
     for map in &maps {
         map.is_kept(&input)?;
@@ -61,11 +64,13 @@ pub fn disagreement(random: &mut Random, case: usize) -> Outcome {
         disagreeing: disagreeing.after(&input, status)?[0],
         compared: compared.after(&input, status)?[0],
     };
+    let naive = count(reference, target, shift);
+    told(&values, &naive, &input)?;
     let trusted = |words| original::bitmap_of(Bitmap::new(words, width, height));
     agreed(
         &input,
         (status, written),
-        count(reference, target, shift),
+        naive,
         Some(|| {
             let exclusions = [reference.exclusion, target.exclusion].map(trusted);
             Ok(Counts {

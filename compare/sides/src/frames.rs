@@ -162,36 +162,27 @@ pub fn count_ones(random: &mut Random, case: usize) -> Outcome {
     )
 }
 
-/// A row is never refused: its words are none where another call would be. They go to
-/// the front of the output if they fit, and the rest of it stays.
+/// A row is never refused: it is the empty part, at 0, where another call would be.
 pub fn row(random: &mut Random, case: usize) -> Outcome {
     let claim = Claim::any(random, case, 12);
     let words = claim.bitmap(random);
     let (_, y) = claim.pixel(random);
-    let room = match random.below(4) {
-        0 => random.below(claim.words_per_row() + 1),
-        1 => claim.words_per_row() + random.below(9),
-        _ => claim.words_per_row(),
-    };
-    let mut out = Lent::room(random, room);
-    let input = format!("{claim}, words {words}, row {y}, output {out}");
+    let mut start = Lent::room(random, 1);
+    let input = format!("{claim}, words {words}, row {y}");
 
     let bitmap = Bitmap::new(words.list(), claim.width, claim.height);
-    let length = port::row(bitmap, y, out.list_mut());
+    let length = port::row(bitmap, y, start.one_mut());
     words.is_kept(&input)?;
-    let written = |part: &[u64]| {
-        let mut all = out.list_before().to_vec();
-        if let Some(front) = all.get_mut(..part.len()) {
-            front.copy_from_slice(part);
-        }
-        (part.len(), all)
-    };
+    let start = start.after(&input, 0)?[0];
+    let place = bitmap::row_place(bitmap, y);
     let part = bitmap::row(bitmap, y);
     agreed(
         &input,
-        (0, (length, out.after(&input, 0)?)),
-        Ok(written(part)),
-        (!part.is_empty() && original_has(bitmap))
-            .then_some(|| original::row(bitmap, y).map(|part| written(&part))),
+        (0, (start, words.part(start, length))),
+        Ok((place.start, Some(part.to_vec()))),
+        (!part.is_empty() && original_has(bitmap)).then_some(|| {
+            let start = original::row_start(bitmap, y)?;
+            Ok((start, Some(original::row(bitmap, y)?)))
+        }),
     )
 }

@@ -85,6 +85,12 @@ impl<T: Element> Lent<T> {
         &self.before[self.lent.clone()]
     }
 
+    /// A part of the list, if it lies within.
+    pub fn part(&self, start: usize, length: usize) -> Option<Vec<T>> {
+        let rest = self.list().get(start..)?;
+        rest.get(..length).map(<[T]>::to_vec)
+    }
+
     /// Nothing has changed.
     pub fn is_kept(&self, input: &str) -> Outcome {
         self.are_kept(input, 0..self.all.len())

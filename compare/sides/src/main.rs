@@ -1,13 +1,17 @@
 //! Holds the port against the original and the naive reading on seeded inputs, call
-//! by call. Takes a seed, or none for the usual one. Ends at the first disagreement.
+//! by call, after one run of every call on a thread with little room. Takes a seed, or
+//! none for the usual one. Ends at the first disagreement.
 
 mod claims;
 mod counts;
 mod frames;
 mod lent;
+mod levels;
 mod moves;
 mod report;
+mod sealed;
 mod search;
+mod threads;
 
 use std::fmt::Debug;
 use std::process::ExitCode;
@@ -15,7 +19,7 @@ use std::process::ExitCode;
 use compare::trials::{self, Call, Outcome, call, same};
 use naive::Refusal;
 
-const CALLS: [Call; 17] = [
+const CALLS: [Call; 20] = [
     call("from_rgb", 3000, frames::from_rgb),
     call("shrink2 average", 3000, frames::shrink2_average),
     call("shrink2 subsample", 3000, frames::shrink2_subsample),
@@ -30,12 +34,19 @@ const CALLS: [Call; 17] = [
     call("shifted", 4000, moves::shifted),
     call("common_crop", 4000, moves::common_crop),
     call("disagreement", 6000, counts::disagreement),
+    call("pyramid", 4000, levels::pyramid),
+    call("level", 4000, levels::level),
+    call("scratch", 4000, levels::scratch),
     call("shift", 4000, search::shift),
     call("align_stack", 4000, search::align_stack),
     call("report", 4000, report::report),
 ];
 
 fn main() -> ExitCode {
+    if let Err(wrong) = threads::run().and_then(|()| sealed::run()) {
+        println!("{wrong}");
+        return ExitCode::FAILURE;
+    }
     trials::run(&CALLS, "port, naive and original")
 }
 

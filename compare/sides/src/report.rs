@@ -196,17 +196,13 @@ pub fn report(random: &mut Random, case: usize) -> Outcome {
     let naive = report::report(stack, options, rivalry, room(space));
     samples.is_kept(&input)?;
     told(&values, &naive, &input)?;
-    // Under 10 the records were counted, so that the scratch is used and the count known.
+    // Under 10 the records were counted, so that the scratch is used.
     let of_counting = match status {
         RECORD_SPACE_TOO_SHORT => 0,
         _ => status,
     };
     bytes.used_up_to(asked.need.bytes, &input, of_counting)?;
     words.used_up_to(asked.need.words, &input, of_counting)?;
-    match status {
-        RECORD_SPACE_TOO_SHORT => count.begins_with(&[needed], &input)?,
-        _ => _ = count.after(&input, status)?,
-    }
     let mut sides = [0; 4];
     for (side, slot) in sides.iter_mut().zip(&crop) {
         *side = slot.after(&input, status)?[0] as u64;
@@ -222,7 +218,7 @@ pub fn report(random: &mut Random, case: usize) -> Outcome {
             width,
             height,
         },
-        count.list()[0],
+        count.after(&input, status)?[0],
     );
     let in_lists = |report: report::Report| {
         let mut bytes = records.list_before().to_vec();

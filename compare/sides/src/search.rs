@@ -71,6 +71,7 @@ pub fn shift(random: &mut Random, _: usize) -> Outcome {
     let (mut bytes, mut words) = lent(random, scratch);
     let [mut x, mut y] = [(); 2].map(|()| Lent::room(random, 1));
     let mut comparisons = Lent::room(random, 1);
+    let mut values = Lent::room(random, 5);
     let input = format!(
         "{width} by {height} and {target_width} by {target_height}, {options:?}, {scratch:?}"
     );
@@ -84,6 +85,7 @@ pub fn shift(random: &mut Random, _: usize) -> Outcome {
         (bytes.list_mut(), words.list_mut()),
         (x.one_mut(), y.one_mut()),
         comparisons.one_mut(),
+        values.array_mut(),
     );
     for frame in &frames {
         frame.is_kept(&input)?;
@@ -91,6 +93,8 @@ pub fn shift(random: &mut Random, _: usize) -> Outcome {
     bytes.used_up_to(need.bytes, &input, status)?;
     words.used_up_to(need.words, &input, status)?;
     let (x, y) = (x.after(&input, status)?, y.after(&input, status)?);
+    let naive = align::shift(reference, target, &options, scratch);
+    told(&values, &naive, &input)?;
     let written = Step {
         shift: Shift::new(x[0], y[0]),
         comparisons: comparisons.after(&input, status)?[0],
@@ -98,7 +102,7 @@ pub fn shift(random: &mut Random, _: usize) -> Outcome {
     agreed(
         &input,
         (status, written),
-        align::shift(reference, target, &options, scratch),
+        naive,
         Some(|| {
             let levels = recount::levels(width, height, options.bits);
             Ok(Step {

@@ -2,12 +2,8 @@
 
 use std::hint::black_box;
 
-use ::port::counts as port;
-use ::port::frames as packing;
+use ::port::{Pair, Shift, counts as port, frames as packing, words_needed};
 use mtb_align::{Percentile, compute_bitmaps};
-use naive::bitmap::words_needed;
-use naive::difference::Pair;
-use naive::geometry::Shift;
 
 use crate::frames::{PERCENTILE, TOLERANCE, accepted, frame, gray};
 use crate::inputs::Input;
@@ -48,6 +44,7 @@ pub fn disagreement(input: &Input) -> Vec<Timed> {
     shifts
         .map(|(name, x)| {
             let [mut there, mut disagreeing, mut compared] = [0; 3];
+            let mut values = [0; 5];
             let times = race([
                 &mut || {
                     let reference = black_box(&bitmaps);
@@ -59,7 +56,12 @@ pub fn disagreement(input: &Input) -> Vec<Timed> {
                     let counts = (&mut disagreeing, &mut compared);
                     let (reference, shift) = (*black_box(&pair), Shift::new(x, 0));
                     accepted(port::disagreement(
-                        reference, pair, shift, counts.0, counts.1,
+                        reference,
+                        pair,
+                        shift,
+                        counts.0,
+                        counts.1,
+                        &mut values,
                     ));
                 },
             ]);

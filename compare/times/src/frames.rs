@@ -2,12 +2,9 @@
 
 use std::hint::black_box;
 
+use ::port::{Bitmap, Frame, Shrink, frames as port, words_needed};
 use compare::inputs::Random;
 use mtb_align::{Gray, Percentile};
-use naive::bitmap::{Bitmap, words_needed};
-use naive::gray::Frame;
-use naive::shrink::Shrink;
-use port::frames as port;
 
 use crate::inputs::Input;
 use crate::original;

@@ -4,6 +4,7 @@
 mod counts;
 mod frames;
 mod inputs;
+mod levels;
 mod moves;
 mod opencv;
 mod original;
@@ -52,12 +53,13 @@ impl Timed {
 type Call = (&'static str, fn(&Input) -> Vec<Timed>);
 
 /// Calls timed on every input.
-const CALLS: [Call; 9] = [
+const CALLS: [Call; 10] = [
     ("from_rgb", frames::from_rgb),
     ("shrink2", frames::shrink2),
     (frames::COMPUTE_BITMAPS, frames::cut_and_bitmaps), // and threshold, in one race
     ("count_ones", frames::count_ones),
     ("shifted", moves::shifted),
+    ("pyramid", levels::pyramid),
     ("disagreement", counts::disagreement),
     ("shift", search::shift),
     ("align_stack", search::align_stack),

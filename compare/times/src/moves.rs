@@ -3,8 +3,7 @@
 
 use std::hint::black_box;
 
-use naive::geometry::Shift;
-use port::moves as port;
+use ::port::{Shift, moves as port};
 
 use crate::frames::{accepted, frame, gray};
 use crate::inputs::Input;

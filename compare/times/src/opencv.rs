@@ -3,7 +3,7 @@
 //! for stacks takes frames in colour only.
 
 use mtb_align::Gray;
-use naive::align::Options;
+use port::Options;
 
 pub const AT_HAND: bool = cfg!(opencv);
 

@@ -7,6 +7,7 @@
 use std::hint::black_box;
 use std::slice;
 
+use compare::recount;
 use mtb_align::{Bitmap, Bitmaps, Gray, Options, Percentile, Shift, Shrink};
 
 #[inline(never)]
@@ -21,6 +22,22 @@ pub extern "C" fn from_rgb(rgb: *const u8, rgb_length: usize, width: usize, heig
 #[unsafe(export_name = "original_shrink2")]
 pub extern "C" fn shrink2(gray: &Gray, subsampled: bool) -> u32 {
     black_box(mtb_align::shrink2(gray, mode(subsampled)));
+    0
+}
+
+/// The original's own is private: these are its lines, for the levels that it would
+/// have.
+#[inline(never)]
+#[unsafe(export_name = "original_pyramid")]
+pub extern "C" fn pyramid(gray: &Gray, bits: u32, subsampled: bool) -> u32 {
+    let levels = recount::levels(gray.width(), gray.height(), bits);
+    let mut pyramid = Vec::with_capacity(levels + 1);
+    pyramid.push(gray.clone());
+    for _ in 0..levels {
+        let coarser = mtb_align::shrink2(pyramid.last().expect("just pushed"), mode(subsampled));
+        pyramid.push(coarser);
+    }
+    black_box(pyramid);
     0
 }
 

@@ -4,11 +4,8 @@
 
 use std::hint::black_box;
 
-use ::port::report as port;
+use ::port::{Options, RECORD_BYTES, Rivalry, Scratch, Shrink, Stack, report as port};
 use mtb_align::{Percentile, Shift, compute_bitmaps};
-use naive::align::{Options, Scratch, Stack};
-use naive::report::{RECORD_BYTES, Rivalry};
-use naive::shrink::Shrink;
 
 use crate::frames::{PERCENTILE, TOLERANCE, accepted, gray};
 use crate::inputs::{Input, Size};

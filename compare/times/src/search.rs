@@ -3,18 +3,15 @@
 
 use std::hint::black_box;
 
+use ::port::{Frame, Options, Scratch, Shrink, Stack, search as port};
 use mtb_align::{Gray, Shift};
-use naive::align::{Options, Scratch, Stack};
-use naive::gray::Frame;
-use naive::shrink::Shrink;
-use port::search as port;
 
 use crate::frames::{accepted, gray};
 use crate::inputs::Input;
 use crate::race::race_beside;
 use crate::{Timed, opencv, original, timed};
 
-const OPTIONS: Options = Options {
+pub const OPTIONS: Options = Options {
     bits: 6,
     tolerance: 4,
     percentile: 50,
@@ -62,6 +59,7 @@ pub fn shift(input: &Input) -> Vec<Timed> {
         [0, 1].map(|frame: usize| Frame::new(frames[frame].as_slice(), width, height));
     let (mut bytes, mut words) = scratch(input.size);
     let (mut x, mut y, mut comparisons) = (0, 0, 0);
+    let mut values = [0; 5];
     let [mut x_there, mut y_there] = [0; 2];
     let mut opencv = || opencv::shift(black_box(&frames[0]), &frames[1], &OPTIONS);
     let sides: [&mut dyn FnMut(); 2] = [
@@ -85,6 +83,7 @@ pub fn shift(input: &Input) -> Vec<Timed> {
                 (&mut bytes, &mut words),
                 (&mut x, &mut y),
                 &mut comparisons,
+                &mut values,
             ));
         },
     ];
