@@ -95,6 +95,7 @@ to buffers made before. {}
 The ratio is original to port; `<` marks one below the goal.
 Packing alone is compute_bitmaps less threshold on the port's side, and the whole of
 compute_bitmaps on the original's. Percentile 50, tolerance 4.
+A pyramid is made for bits 6; the original's begins with a copy of the frame.
 A report is of two frames, at bits 1, floor 1 and margin 0; there the original counts
 once at each shift that the report surveys, in bitmaps packed before.
 Inputs: noise, any bytes; pins, even rows of bright pins, 6 of 16 columns and 24 of 40
