@@ -1,60 +1,57 @@
 #!/usr/bin/env bash
-# Compiles examples/report.c as C and as C++ with every warning an error, links the
-# archive that is named, and holds what it prints to the text of stacksteps; then makes
-# a shared library of the archive and calls it from Python. Says what was left out for
-# want of a compiler, of Python or of the example.
+# Builds the examples as a caller would, with the archive that is named, and holds what
+# they print to what is known: in C and C++ with every warning an error, in Rust, and in
+# Python with a shared library of the archive. Says in a line what is left out.
 set -euo pipefail
 archive=$(realpath "$1")
 cd "$(dirname "${BASH_SOURCE[0]}")/.."
-text=crates/stacksteps/stdout
 room=$(mktemp -d)
 trap 'rm -rf "$room"' EXIT
 
-has() { command -v "$1" >/dev/null 2>&1; }
-
-# Ends the run where a command prints anything else than the text.
-prints_the_text() { # NAME COMMAND...
-  local name=$1
+at_hand() { # EXAMPLE PROGRAM...
+  local example=$1 program
   shift
-  "$@" >"$room/stdout" </dev/null || { echo "$name: ended with status $?"; exit 1; }
-  cmp "$room/stdout" "$text" || { echo "$name: prints another text than $text"; exit 1; }
-  echo "$name: prints $text byte for byte"
+  [ -f "$example" ] || { echo "$example: left out, it is not there"; return 1; }
+  for program in "$@"; do
+    command -v "$program" >/dev/null 2>&1 || { echo "$example: left out, no $program at hand"; return 1; }
+  done
 }
 
-compiled() { # NAME COMPILER FLAG...
-  local name=$1 compiler=$2
-  shift 2
-  if ! has "$compiler"; then
-    echo "$name: left out, no $compiler at hand"
-  elif ! [ -f examples/report.c ]; then
-    echo "$name: left out, there is no examples/report.c"
-  else
-    "$compiler" "$@" -Wall -Wextra -pedantic -Werror -I crates/mtb_c examples/report.c -x none "$archive" -o "$room/report"
-    prints_the_text "$name" "$room/report"
-  fi
+# The texts of stacksteps, for every input that it reports on.
+report_prints_the_texts() { # NAME
+  local input text count=0
+  for input in crates/stacksteps/stdin compare/vectors/data/stacksteps/*.stdin; do
+    text=${input%stdin}stdout
+    grep -q '^frames ' "$text" || continue
+    "$room/report" 64 64 1 <"$input" | cmp - "$text" || { echo "$1: prints another text than $text"; exit 1; }
+    count=$((count + 1))
+  done
+  echo "$1: prints the text of stacksteps for $count inputs, byte for byte"
 }
 
-compiled 'examples/report.c as C' cc -x c -std=c11
-compiled 'examples/report.c as C++' c++ -x c++ -std=c++17
+# Calibration card D.
+prints_the_cut() { # NAME COMMAND...
+  local name=$1 said
+  shift
+  said=$("$@")
+  [ "$said" = 'cut 11' ] || { echo "$name: prints $said in place of cut 11"; exit 1; }
+  echo "$name: prints $said, as card D has it"
+}
 
-if ! has cc || ! has python3; then
-  echo "a shared library: left out, no cc or no python3 at hand"
-  exit
+flags=(-Wall -Wextra -pedantic -Werror -I crates/mtb_c)
+if at_hand examples/report.c cc; then
+  cc -std=c11 "${flags[@]}" examples/report.c "$archive" -o "$room/report"
+  report_prints_the_texts 'examples/report.c as C'
 fi
-library=$room/libmtb_c.so
-cc -shared -Wl,--no-undefined -Wl,--whole-archive "$archive" -Wl,--no-whole-archive -o "$library"
-python3 - "$library" <<'PYTHON'
-import ctypes, sys
-
-doubled = ctypes.CDLL(sys.argv[1]).mtb_doubled
-x, y = ctypes.c_int32(), ctypes.c_int32()
-answers = doubled(3, -4, ctypes.byref(x), ctypes.byref(y)), x.value, y.value
-assert answers == (0, 6, -8), answers
-# Refused by 12: the slots stay.
-answers = doubled(1 << 30, 0, ctypes.byref(x), ctypes.byref(y)), x.value, y.value
-assert answers == (12, 6, -8), answers
-print("a shared library of the archive: called from Python")
-PYTHON
-if [ -f examples/report.py ]; then
-  prints_the_text 'examples/report.py' python3 examples/report.py "$library"
+if at_hand examples/report.c c++; then
+  c++ -x c++ -std=c++17 "${flags[@]}" examples/report.c -x none "$archive" -o "$room/report"
+  report_prints_the_texts 'examples/report.c as C++'
+fi
+if at_hand examples/cut.rs rustc; then
+  rustc examples/cut.rs -L "${archive%/*}" -l static=mtb_c -o "$room/cut"
+  prints_the_cut examples/cut.rs "$room/cut"
+fi
+if at_hand examples/cut.py cc python3; then
+  cc -shared -Wl,--whole-archive "$archive" -Wl,--no-whole-archive -o "$room/libmtb.so"
+  prints_the_cut examples/cut.py python3 examples/cut.py "$room/libmtb.so"
 fi
