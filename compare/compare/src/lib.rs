@@ -1,6 +1,8 @@
-//! What the comparisons and the vectors share: seeded inputs like the trade's, the
-//! original asked in the naive reading's terms, and the run over all cases.
+//! What the comparisons, the vectors and the timings share: seeded inputs like the
+//! trade's, the original asked in the naive reading's terms, the run over all cases, and
+//! a clock.
 
+pub mod clock;
 pub mod frames;
 pub mod inputs;
 pub mod original;

@@ -1,5 +1,7 @@
 //! How long calls take when they are run in turn.
 
+use compare::clock::processor_time;
+
 pub const ROUNDS: usize = 12;
 /// What a turn takes at least, in nanoseconds: little, so that many are undisturbed.
 const TURN: f64 = 600_000.0;
@@ -59,26 +61,4 @@ fn time(side: &mut dyn FnMut(), runs: u32) -> f64 {
         side();
     }
     processor_time() - start
-}
-
-/// The nanoseconds that this thread has had a processor. The clock on the wall would
-/// count other programs too.
-fn processor_time() -> f64 {
-    #[repr(C)]
-    struct Time {
-        seconds: i64,
-        nanoseconds: i64,
-    }
-    unsafe extern "C" {
-        fn clock_gettime(clock: i32, time: *mut Time) -> i32;
-    }
-    const THREAD: i32 = 3; // CLOCK_THREAD_CPUTIME_ID on Linux
-
-    let mut time = Time {
-        seconds: 0,
-        nanoseconds: 0,
-    };
-    let status = unsafe { clock_gettime(THREAD, &mut time) };
-    assert_eq!(status, 0, "the thread has no clock");
-    time.seconds as f64 * 1e9 + time.nanoseconds as f64
 }
