@@ -1,4 +1,4 @@
-# For run and speed, from their folder: succeeds where the port's archive is at hand.
+# For run, speed and choose, from their folder: succeeds where the port's archive is at hand.
 # Where rt is, and MTB_STATICLIB names no other archive, it is made, unless it stands
 # already and is the one of these sources and this toolchain.
 archive=${MTB_STATICLIB:-../target/staticlib}/libmtb_c.a
