@@ -176,6 +176,15 @@ stepBytes w h bits = 2 * halvedSamples w h (levels w h bits)
 unfoldable pub stepWords : ℕ → ℕ → ℕ
 stepWords w h = 4 * bitmapWords w h
 
+-- Scratch by its bytes and its words.
+pub record Need : Type 0 where
+  pub bytes : ℕ
+  pub words : ℕ
+
+-- What a step needs of both.
+abbrev pub stepNeed : ℕ → ℕ → ℕ → Need
+stepNeed w h bits = record { bytes = stepBytes w h bits; words = stepWords w h }
+
 -- What a stack of n frames needs of what a step needs: none with one frame.
 abbrev pub stackNeed : ℕ → ℕ → ℕ
 stackNeed n need = cond (leb n 1) 0 need

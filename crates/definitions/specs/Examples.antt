@@ -1,12 +1,13 @@
 -- Small examples of what the cards leave open, by computation.
 use Prim.Native.Nat.{ℕ}
 use mathlib.Core.Path.{_≡_, refl}
+use mathlib.Core.Bool.{true}
 use mathlib.Core.List.{List, [], _∷_}
 use lib.IntN.{pos, negsuc}
 use Rattle.definitions.specs.Sum.{sum, countIf}
 use Rattle.definitions.specs.Build.{build, joined, keepIf}
 use Rattle.definitions.specs.Geometry.{Shift, origin, indexOf, source, atSources}
-use Rattle.definitions.specs.Shrink.{average, subsample, mean, halvedSample, shrink2, sideAt, levelOf}
+use Rattle.definitions.specs.Shrink.{average, subsample, mean, halvedSample, shrink2, sideAt, samplesAt, levelOf, halvedSamples, levelStart, nowhere, placeOf}
 use Rattle.definitions.specs.Threshold.{bins, target, binsAdded, cut, thresholdBit, exclusionBit}
 use Rattle.definitions.specs.Bitmap.{wordsPerRow, bitOf, bitAt}
 use Rattle.definitions.specs.Difference.{Bitmaps, bitmapsOf, bitmapsIn, comparedBit, disagreeingBit, overlap, counts}
@@ -59,6 +60,11 @@ verdict-of-each-kind = (refl, refl, refl, refl)
 odd-side-dropped : (shrink2 subsample 3 2 (1 ∷ 2 ∷ 3 ∷ 4 ∷ 5 ∷ 6 ∷ []) ≡ 1 ∷ []) × (shrink2 average 3 2 (1 ∷ 2 ∷ 3 ∷ 4 ∷ 5 ∷ 6 ∷ []) ≡ 3 ∷ [])
 unfolding build joined mean halvedSample shrink2
 odd-side-dropped = (refl, refl)
+
+-- Of 8 by 8 halved twice, level 2 stands past the 16 samples of level 1, and there is no level 3.
+second-level-stands : (placeOf 8 8 2 2 ≡ record { inScratch = true; start = 16; samples = 4 }) × (placeOf 8 8 2 3 ≡ nowhere)
+unfolding sum sideAt samplesAt halvedSamples levelStart placeOf
+second-level-stands = (refl, refl)
 
 -- Down from the reference, then up; frame 4 steps against frame 3, not against the reference.
 walk-and-neighbour : (walk 2 5 ≡ 1 ∷ 0 ∷ 3 ∷ 4 ∷ []) × (neighbour 2 4 ≡ 3) × (neighbour 2 0 ≡ 1)

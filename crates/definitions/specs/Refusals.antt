@@ -156,6 +156,10 @@ unfoldable pub pyramidChecks : ℕ → ℕ → ℕ → ℕ → ℕ → List Chec
 pyramidChecks w h samples bits scratch =
     sideOver w ∷ sideOver h ∷ wrongLength samples (w * h) ∷ scratchShort scratch (halvedSamples w h (levels w h bits)) ∷ []
 
+-- Asking how much scratch a step needs.
+unfoldable pub needChecks : ℕ → ℕ → List Check
+needChecks w h = sideOver w ∷ sideOver h ∷ []
+
 -- The crop of a shift list: its length has to be even.
 unfoldable pub cropChecks : ℕ → ℕ → ℕ → List Check
 cropChecks w h n = sideOver w ∷ sideOver h ∷ record { fails = eqb (n % 2) 1; number = 2; values = [] } ∷ []

@@ -1,6 +1,6 @@
 -- shrink.rs: halving, and the levels of a pyramid. Ward's ImageShrink2.
 use Prim.Native.Nat.{ℕ, zero, suc, _+_, _-_, _*_, _/_}
-use mathlib.Core.Bool.{cond}
+use mathlib.Core.Bool.{Bool, true, false, cond}
 use mathlib.Core.List.{List, []}
 use lib.Dec.{eqb, leb}
 use lib.ListN.{take, drop}
@@ -58,3 +58,23 @@ unfoldable pub levelPart : ℕ → ℕ → ℕ → List ℕ → List ℕ → ℕ
 levelPart w h n frame scratch k =
     cond (eqb k 0) frame
     (cond (leb k n) (take (samplesAt k w h) (drop (levelStart w h k) scratch)) [])
+
+-- A part of a frame or of the scratch of its levels: which of the two, the sample that it starts at, and how many it has.
+pub record LevelPlace : Type 0 where
+  pub inScratch : Bool
+  pub start : ℕ
+  pub samples : ℕ
+
+-- The empty part.
+unfoldable pub nowhere : LevelPlace
+nowhere = record { inScratch = false; start = 0; samples = 0 }
+
+-- Where level k of n halved levels stands: it is the frame, a part of the scratch, or past the last nothing.
+unfoldable pub placeOf : ℕ → ℕ → ℕ → ℕ → LevelPlace
+placeOf w h n k =
+    cond (eqb k 0) (record { inScratch = false; start = 0; samples = w * h })
+    (cond (leb k n) (record { inScratch = true; start = levelStart w h k; samples = samplesAt k w h }) nowhere)
+
+-- The samples that stand at a place.
+abbrev pub partAt : LevelPlace → List ℕ → List ℕ → List ℕ
+partAt p frame scratch = take (p .samples) (drop (p .start) (cond (p .inScratch) scratch frame))

@@ -1,6 +1,6 @@
 -- Ordered checks: a check that fails refuses, one that passes leaves the rest, and what an answer says of the checks, the value and
 -- the buffers. Assumes nothing.
-use mathlib.Core.Path.{_≡_, refl, sym, ap, _∙_}
+use mathlib.Core.Path.{_≡_, refl, sym, ap, subst, _∙_}
 use mathlib.Core.Bool.{Bool, true, false, cond, not, _||_}
 use mathlib.Core.List.{List, [], _∷_, _++_, List·Memᴰ, List·Memᴰ·not-nil, List·Memᴰ·cases-cons}
 use mathlib.Core.Logic.{⊎-elim}
@@ -227,6 +227,23 @@ module _ {A : Type 0} (a : A) where
           → cond t old (after l new old) ≡ old
       on true p ih = refl
       on false p ih = ih p
+
+-- what holds of both outcomes holds after the call, and what is computed of them is computed after it
+module _ {B : Type 0} (l : List Check) (new old : B) where
+  pub after-holds : (P : B → Type 0) → (accepted (tt {0}) ≡ answer l tt → P new) → P old → P (after l new old)
+  after-holds P p q = on (answer l (tt {0})) refl
+    where
+      on : (r : Answer (Unit {0})) → answer l (tt {0}) ≡ r → P (after l new old)
+      on (accepted u) e = subst P (sym (after-accepted (tt {0}) l new old e)) (p (sym (accepted-too (tt {0}) (tt {0}) l e)))
+      on (refused n v) e = subst P (sym (after-refused (tt {0}) l new old e)) q
+
+  pub after-by : {C : Type 0} (f : B → C) {new′ old′ : C} → (accepted (tt {0}) ≡ answer l tt → new′ ≡ f new) → old′ ≡ f old → after l new′ old′ ≡ f (after l new old)
+  after-by f {new′} {old′} p q = on (answer l (tt {0})) refl
+    where
+      on : (r : Answer (Unit {0})) → answer l (tt {0}) ≡ r → after l new′ old′ ≡ f (after l new old)
+      on (accepted u) e =
+          after-accepted (tt {0}) l new′ old′ e ∙ p (sym (accepted-too (tt {0}) (tt {0}) l e)) ∙ sym (ap f (after-accepted (tt {0}) l new old e))
+      on (refused n v) e = after-refused (tt {0}) l new′ old′ e ∙ q ∙ sym (ap f (after-refused (tt {0}) l new old e))
 
 -- what a call that writes one buffer shows on its two paths
 pub refuses : {B : Type 0} (l : List Check) (new old : B) {n : ℕ} {v : List ℕ} → refused n v ≡ answer l (tt {0}) → (refused n v ≡ answer l (tt {0})) × (old ≡ after l new old)

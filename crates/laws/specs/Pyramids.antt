@@ -1,21 +1,23 @@
 -- The levels of a pyramid: their sides and samples, how little they come to, and where each stands in the scratch.
 -- Assumes nothing.
 use mathlib.Core.Path.{_≡_, refl, sym, ap, ap₂, _∙_}
+use mathlib.Core.Bool.{Bool, true, false, cond}
 use mathlib.Core.List.{List, [], _++_, append-assoc}
 use mathlib.Core.Logic.{⊎-elim}
 use Prim.Native.Nat.{ℕ, zero, suc, _+_, _-_, _*_, _/_, _<_, _≤_}
 use native.Mathlib.Nat.{add-zero, mul-comm, mul-le-mul, eq-or-lt-of-le, le-of-suc-le-suc, not-suc-le-zero}
 use native.Mathlib.Numerals.{add-one}
 use native.Mathlib.Omega.{arith}
-use borrow.Author.Tests.{ltb-false, eqb-true, not-false, eq-eqb, ne-eqb, le-leb, lt-leb}
+use borrow.Author.Tests.{ltb-false, leb-true, eqb-true, eqb-false, not-false, eq-eqb, ne-eqb, le-leb, lt-leb}
+use lib.Dec.{eqb, leb}
 use lib.ListN.{length, take, drop, length-append, length-drop}
 use lib.Seq.{sets, sets-eq, length-take-le, drop-append-le, drop-append-add, take-append-le, take-all, drop-at, take-length}
 use Rattle.definitions.specs.Sum.{sum}
 use Rattle.definitions.specs.Build.{joined}
-use Rattle.definitions.specs.Shrink.{Shrink, halvedSample, shrink2, sideAt, samplesAt, levelOf, halvedSamples, levelStart, pyramid, levelPart}
+use Rattle.definitions.specs.Shrink.{Shrink, halvedSample, shrink2, sideAt, samplesAt, levelOf, halvedSamples, levelStart, pyramid, levelPart, LevelPlace, nowhere, placeOf, partAt}
 use Rattle.definitions.specs.Align.{levels}
-use Rattle.definitions.specs.Refusals.{accepted, answer, sideOver, wrongLength, scratchShort, pyramidChecks}
-use Rattle.laws.specs.Checks.{passed}
+use Rattle.definitions.specs.Refusals.{Check, accepted, answer, after, sideOver, wrongLength, scratchShort, pyramidChecks}
+use Rattle.laws.specs.Checks.{passed, after-holds, after-by}
 use Rattle.laws.specs.Lists.{image-length}
 use Rattle.laws.specs.Sums.{sum-none, sum-more, sum-split}
 
@@ -178,20 +180,51 @@ module _ (mode : Shrink) (w h : ℕ) (s : List ℕ) where
   level-part n zero p q = absurd (not-suc-le-zero p)
   level-part n (suc k) p q = rw (start-suc w h k) (joined-part (λ (j : ℕ). levelOf mode w h s (suc j)) (λ (j : ℕ). samplesAt (suc j) w h) halved-length n k q)
 
--- ---- a level that is asked for
+-- ---- where a level stands
 
-module _ (w h n : ℕ) (frame scratch : List ℕ) (k : ℕ) where
-  pub part-frame : k ≡ 0 → frame ≡ levelPart w h n frame scratch k
-  unfolding levelPart
-  part-frame e = rw (eq-eqb k 0 e)
+module _ (w h n k : ℕ) where
+  abbrev frame-whole : LevelPlace
+  frame-whole = record { inScratch = false; start = 0; samples = w * h }
 
-  pub part-past : (k ≡ 0 → ⊥) → n < k → [] ≡ levelPart w h n frame scratch k
-  unfolding levelPart
-  part-past e l = rw (ne-eqb k 0 e, lt-leb k n l)
+  abbrev scratch-part : LevelPlace
+  scratch-part = record { inScratch = true; start = levelStart w h k; samples = samplesAt k w h }
 
-  pub part-level : (k ≡ 0 → ⊥) → k ≤ n → take (samplesAt k w h) (drop (levelStart w h k) scratch) ≡ levelPart w h n frame scratch k
-  unfolding levelPart
-  part-level e l = rw (ne-eqb k 0 e, le-leb k n l)
+  pub place-frame : k ≡ 0 → frame-whole ≡ placeOf w h n k
+  unfolding placeOf
+  place-frame e = rw (eq-eqb k 0 e)
+
+  pub place-past : (k ≡ 0 → ⊥) → n < k → nowhere ≡ placeOf w h n k
+  unfolding placeOf
+  place-past e l = rw (ne-eqb k 0 e, lt-leb k n l)
+
+  pub place-level : (k ≡ 0 → ⊥) → k ≤ n → scratch-part ≡ placeOf w h n k
+  unfolding placeOf
+  place-level e l = rw (ne-eqb k 0 e, le-leb k n l)
+
+  module _ (frame scratch : List ℕ) (whole : length frame ≡ w * h) where
+    -- the level is the part that stands there
+    pub part-stands : levelPart w h n frame scratch k ≡ partAt (placeOf w h n k) frame scratch
+    unfolding levelPart placeOf nowhere
+    part-stands = on (eqb k 0) (leb k n)
+      where
+        on : (first halved : Bool)
+            → cond first frame (cond halved (take (samplesAt k w h) (drop (levelStart w h k) scratch)) [])
+            ≡ partAt (cond first frame-whole (cond halved scratch-part nowhere)) frame scratch
+        on true halved = sym (take-all (w * h) frame (omega arith))
+        on false true = refl
+        on false false = refl
+
+    -- and the place lies inside its list
+    pub place-inside : halvedSamples w h n ≤ length scratch → let p = placeOf w h n k in p .start + p .samples ≤ length (cond (p .inScratch) scratch frame)
+    unfolding placeOf nowhere
+    place-inside room = on (eqb k 0) refl (leb k n) refl
+      where
+        on : (first : Bool) → eqb k 0 ≡ first → (halved : Bool) → leb k n ≡ halved
+            → let p = cond first frame-whole (cond halved scratch-part nowhere) in
+            p .start + p .samples ≤ length (cond (p .inScratch) scratch frame)
+        on true e halved f = omega arith
+        on false e true f = omega (arith, level-end w h k (omega (arith, eqb-false k 0 e)), halved-le w h k n (leb-true k n f))
+        on false e false f = omega arith
 
 -- ---- what a call whose checks pass was given
 
@@ -214,3 +247,27 @@ in-order w h samples bits scratch e =
       whole = eqb-true samples (w * h) (not-false _ (c .0));
       room = ltb-false scratch (halvedSamples w h (levels w h bits)) (d .0);
     }
+
+-- ---- a level that is asked for, by its checks
+
+module _ (w h bits k : ℕ) (frame scratch : List ℕ) where
+  abbrev checks : List Check
+  checks = pyramidChecks w h (length frame) bits (length scratch)
+
+  abbrev asked : LevelPlace
+  asked = after checks (placeOf w h (levels w h bits) k) nowhere
+
+  pub level-stands : after checks (levelPart w h (levels w h bits) frame scratch k) [] ≡ partAt asked frame scratch
+  unfolding nowhere
+  level-stands =
+      after-by checks (placeOf w h (levels w h bits) k) nowhere (λ (p : LevelPlace). partAt p frame scratch)
+      (λ e. part-stands w h (levels w h bits) k frame scratch (in-order w h (length frame) bits (length scratch) e .whole))
+      refl
+
+  pub level-inside : asked .start + asked .samples ≤ length (cond (asked .inScratch) scratch frame)
+  unfolding nowhere
+  level-inside =
+      after-holds checks (placeOf w h (levels w h bits) k) nowhere
+      (λ (p : LevelPlace). p .start + p .samples ≤ length (cond (p .inScratch) scratch frame))
+      (λ e. let f = in-order w h (length frame) bits (length scratch) e in place-inside w h (levels w h bits) k frame scratch (f .whole) (f .room))
+      (omega arith)

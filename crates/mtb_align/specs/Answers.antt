@@ -27,6 +27,11 @@ use Rattle.definitions.specs.Difference as difference
 use Rattle.mtb_align.specs.declared.difference.Counts.{Counts}
 use Rattle.mtb_align.specs.declared.difference.CountsAnswer.{CountsAnswer}
 use Rattle.mtb_align.specs.declared.difference.CountsAnswer.the-variants as counted
+use Rattle.definitions.specs.Align as search
+use Rattle.mtb_align.specs.declared.align.LevelPlace.{LevelPlace}
+use Rattle.mtb_align.specs.declared.align.Need.{Need}
+use Rattle.mtb_align.specs.declared.align.NeedAnswer.{NeedAnswer}
+use Rattle.mtb_align.specs.declared.align.NeedAnswer.the-variants as needs
 use Rattle.mtb_align.specs.declared.align.Step.{Step}
 use Rattle.mtb_align.specs.declared.align.StepAnswer.{StepAnswer}
 use Rattle.mtb_align.specs.declared.align.StepAnswer.the-variants as steps
@@ -124,6 +129,18 @@ countsIn c = record { disagreeing = c .disagreeing; compared = c .compared }
 abbrev pub countsAnswer : CountsAnswer → Answer difference.Counts
 countsAnswer (counted.Counted c) = accepted (countsIn c)
 countsAnswer (counted.Refused e) = refusal e
+
+-- Where a level stands.
+abbrev pub levelPlaceIn : LevelPlace → halving.LevelPlace
+levelPlaceIn p = record { inScratch = p .«in_scratch»; start = p .start; samples = p .samples }
+
+-- The scratch of a step.
+abbrev pub needIn : Need → search.Need
+needIn n = record { bytes = n .bytes; words = n .words }
+
+abbrev pub needAnswer : NeedAnswer → Answer search.Need
+needAnswer (needs.Needed n) = accepted (needIn n)
+needAnswer (needs.Refused e) = refusal e
 
 -- A step with the number of comparisons made.
 pub record Stepped : Type 0 where

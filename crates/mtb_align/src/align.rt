@@ -21,14 +21,14 @@ ghost use Prim.Native.Nat.{suc, _+_, _-_, _*_, _≤_, _<_, max};
 ghost use lib.ListN.{length, getD, drop};
 ghost use lib.Dec.{ltb};
 ghost use lib.Seq.{sets};
-ghost use Rattle.definitions.specs.Shrink.{sideAt, halvedSamples, pyramid, levelPart};
+ghost use Rattle.definitions.specs.Shrink.{sideAt, halvedSamples, pyramid, levelPart, nowhere, placeOf};
 ghost use Rattle.definitions.specs.Build.{build};
 ghost use Rattle.definitions.specs.Geometry.{offset, doubled, listed};
 ghost use Rattle.definitions.specs.Bitmap.{bitmapWords};
-ghost use Rattle.definitions.specs.Align.{log2, levels, tried, refine, stepAt, comparisonsAt, costOf, step, comparisons, stackOf, shiftOf, stepBytes, stepWords, stackNeed};
+ghost use Rattle.definitions.specs.Align.{log2, levels, tried, refine, stepAt, comparisonsAt, costOf, step, comparisons, stackOf, shiftOf, stepBytes, stepWords, stepNeed, stackNeed};
 ghost use Rattle.definitions.specs.Align as stacks;
-ghost use Rattle.definitions.specs.Refusals.{accepted, refused, answer, after, FreeUpTo, Scratch, sideOver, unequal, pairDiffers, pyramidChecks, stepChecks, framesChecks, stackScratchChecks, stackChecks};
-ghost use Rattle.mtb_align.specs.Answers.{outcome, modeOf, shiftIn, countsIn, stepAnswer, Stepped};
+ghost use Rattle.definitions.specs.Refusals.{accepted, refused, answer, after, FreeUpTo, Scratch, sideOver, unequal, pairDiffers, pyramidChecks, needChecks, stepChecks, framesChecks, stackScratchChecks, stackChecks};
+ghost use Rattle.mtb_align.specs.Answers.{outcome, modeOf, shiftIn, countsIn, levelPlaceIn, needAnswer, stepAnswer, Stepped};
 ghost use Rattle.mtb_align.specs.declared.shrink.Shrink.the-variants.{Average, Subsample};
 ghost use Rattle.mtb_align.specs.Levelled.{Levelled};
 ghost use Rattle.mtb_align.specs.Search.{TwoPairs, pairCounts, costIn, costBetween, exposureOf, fourOf, optionsIn};
@@ -155,6 +155,52 @@ pub fn pyramid(
     }
 }
 
+// A part of a frame or of the scratch of its levels: which of the two, where it starts, and how many samples it has.
+pub struct LevelPlace {
+    pub in_scratch: bool,
+    pub start: usize,
+    pub samples: usize,
+}
+
+// Where level k stands, by the lengths of the two lists; the empty part past the last level and wherever 1, 2 or 7 holds.
+pub fn level_place(
+    samples: usize,
+    width: usize,
+    height: usize,
+    bits: u32,
+    scratch: usize,
+    k: usize,
+) -> LevelPlace
+    ensures { λ r. ⌜ levelPlaceIn r ≡ after (pyramidChecks width height samples bits scratch) (placeOf width height (levels width height bits) k) nowhere ⌝ }
+{
+    let Outcome::Done = pyramid_fits(width, height, samples, bits, scratch) else {
+        return LevelPlace {
+            in_scratch: false,
+            start: 0,
+            samples: 0,
+        };
+    };
+    if k == 0 {
+        return LevelPlace {
+            in_scratch: false,
+            start: 0,
+            samples,
+        };
+    }
+    if k > shrinks(width, height, bits) {
+        return LevelPlace {
+            in_scratch: false,
+            start: 0,
+            samples: 0,
+        };
+    }
+    LevelPlace {
+        in_scratch: true,
+        start: halved_samples(width, height, k - 1),
+        samples: side_at(width, k) * side_at(height, k),
+    }
+}
+
 // Level k as the caller's frame or as a part of the scratch; the empty part past the last level and wherever 1, 2 or 7 holds.
 pub fn level<'a>(
     frame: &'a [u8],
@@ -166,18 +212,13 @@ pub fn level<'a>(
 ) -> &'a [u8]
     ensures { λ r. ⌜ now r ≡ after (pyramidChecks width height (length (now (frame .entry))) bits (length (now (scratch .entry)))) (levelPart width height (levels width height bits) (now (frame .entry)) (now (scratch .entry)) k) [] ⌝ }
 {
-    let Outcome::Done = pyramid_fits(width, height, frame.len(), bits, scratch.len()) else {
-        return &scratch[0..0];
-    };
-    if k == 0 {
-        return frame;
+    let place = level_place(frame.len(), width, height, bits, scratch.len(), k);
+    let start = place.start;
+    let end = start + place.samples;
+    if place.in_scratch {
+        return &scratch[start..end];
     }
-    if k > shrinks(width, height, bits) {
-        return &scratch[0..0];
-    }
-    let start = halved_samples(width, height, k - 1);
-    let end = halved_samples(width, height, k);
-    &scratch[start..end]
+    &frame[start..end]
 }
 
 // How the search is run.
@@ -709,6 +750,30 @@ fn words_needed(width: usize, height: usize) -> usize
     ensures { λ r. ⌜ r ≡ stepWords width height ⌝ }
 {
     4 * (height * words_per_row(width))
+}
+
+// Scratch by its bytes and its words.
+pub struct Need {
+    pub bytes: usize,
+    pub words: usize,
+}
+
+pub enum NeedAnswer {
+    Needed(Need),
+    Refused(Error),
+}
+
+// How much scratch a step needs. Refused: 1.
+pub fn scratch_needed(width: usize, height: usize, bits: u32) -> NeedAnswer
+    ensures { λ r. ⌜ needAnswer r ≡ answer (needChecks width height) (stepNeed width height bits) ⌝ }
+{
+    if side_over(width, height) {
+        return NeedAnswer::Refused(Error::Side);
+    }
+    NeedAnswer::Needed(Need {
+        bytes: bytes_needed(width, height, bits),
+        words: words_needed(width, height),
+    })
 }
 
 // Whether the scratch is long enough for the steps of n frames, by its lengths: with one frame there is none.
