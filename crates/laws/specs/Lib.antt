@@ -28,6 +28,7 @@ pub mod Pyramids
 pub mod Beside
 pub mod Packed
 pub mod ChecksStep
+pub mod ChecksRow
 pub mod Free
 pub mod Walks
 pub mod Moved

@@ -1,13 +1,10 @@
--- Refusals that the last arm of a match is left with: those without values, and those that ask for no records. Assumes nothing.
+-- Refusals that the last arm of a match is left with: those without values. Assumes nothing.
 use mathlib.Core.Path.{_≡_, refl}
-use mathlib.Core.Bool.{cond}
 use mathlib.Core.List.{List, [], _∷_}
 use Prim.Native.Nat.{ℕ}
-use lib.Dec.{eqb}
-use lib.ListN.{getD}
 use denote.Enum.Declared.{tagOf}
 use types.Run.{OneOf, miss}
-use Rattle.mtb_align.specs.Answers.{numberOf, valuesOf}
+use Rattle.mtb_align.specs.Answers.{valuesOf}
 use Rattle.mtb_align.specs.declared.error.Error.{Error}
 use Rattle.mtb_align.specs.declared.error.Error.the-variants.{Side, Length, Percentile, SizeMismatch, FrameMismatch, NoSuchReference, Frames, Scratch, Padding, Reach, Records, Outside, Coordinate}
 use Rattle.mtb_align.proofs.error.Error.{the-type}
@@ -30,22 +27,3 @@ no-values Reach h = refl
 no-values (Records n) h = absurd (miss bare 10 tt h)
 no-values Outside h = refl
 no-values Coordinate h = refl
-
--- all but that of 10
-abbrev others : List ℕ
-others = 0 ∷ 1 ∷ 2 ∷ 3 ∷ 4 ∷ 5 ∷ 6 ∷ 7 ∷ 8 ∷ 9 ∷ 11 ∷ 12 ∷ []
-
-pub no-records : (e : Error) (old : ℕ) → OneOf others (tagOf the-type e) → old ≡ cond (eqb (numberOf e) 10) (getD (valuesOf e) 0 0) old
-no-records Side old h = refl
-no-records Length old h = refl
-no-records Percentile old h = refl
-no-records (SizeMismatch r t) old h = refl
-no-records (FrameMismatch n t k) old h = refl
-no-records (NoSuchReference r n) old h = refl
-no-records Frames old h = refl
-no-records Scratch old h = refl
-no-records Padding old h = refl
-no-records Reach old h = refl
-no-records (Records n) old h = absurd (miss others 10 tt h)
-no-records Outside old h = refl
-no-records Coordinate old h = refl

@@ -2,15 +2,13 @@
 use Prim.Native.Nat.{ℕ}
 use mathlib.Core.Bool.{Bool, cond}
 use mathlib.Core.List.{List, []}
-use lib.Dec.{eqb}
-use lib.ListN.{length, getD}
+use lib.ListN.{length}
 use lib.Seq.{sets}
 use Rattle.definitions.specs.Shrink.{average, subsample}
 use Rattle.definitions.specs.Bitmap.{rowOf}
 use Rattle.definitions.specs.Align.{Options}
 use Rattle.definitions.specs.Refusals.{Answer, accepted, refused, after, rowChecks}
 use Rattle.definitions.specs.Report.{Terms}
-use Rattle.mtb_align.specs.Survey.{Reported}
 
 -- An answer as a status: 0 for an accepted call, else the number of its refusal.
 abbrev pub statusOf : {A : Type 0} → Answer A → ℕ
@@ -21,11 +19,6 @@ statusOf (refused n values) = n
 abbrev pub valuesAfter : {A : Type 0} → Answer A → List ℕ → List ℕ
 valuesAfter (accepted a) old = old
 valuesAfter (refused n values) old = sets old 0 values
-
--- The slot of a report's record count: how many records were written, how many 10 asks for, and under other refusals what it held.
-abbrev pub recordCount : Answer Reported → ℕ → ℕ
-recordCount (accepted r) old = r .records
-recordCount (refused n values) old = cond (eqb n 10) (getD values 0 0) old
 
 -- Row y of a bitmap, or nothing where the call is refused.
 abbrev pub rowPart : List ℕ → ℕ → ℕ → ℕ → List ℕ

@@ -1,12 +1,15 @@
 // The two counts of packed pairs.
+use super::refusals::put_values;
 use mtb_align::difference::CountsAnswer;
 use mtb_align::geometry::Shift;
 ghost use mathlib.Core.Path.{_≡_};
+ghost use mathlib.Core.List.{List};
 ghost use Rattle.definitions.specs.Align.{shift};
-ghost use Rattle.definitions.specs.Difference.{bitmapsIn, counts};
-ghost use Rattle.definitions.specs.Refusals.{answer, after, countingChecks};
-ghost use Rattle.mtb_c.specs.Status.{statusOf};
+ghost use Rattle.definitions.specs.Difference.{Bitmaps, bitmapsIn, counts};
+ghost use Rattle.definitions.specs.Refusals.{Check, answer, after, countingChecks};
+ghost use Rattle.mtb_c.specs.Status.{statusOf, valuesAfter};
 
+// Both counts. Refusal 4 gives both sizes.
 #[no_mangle]
 pub extern "C" fn mtb_disagreement(
     reference_threshold: &[u64],
@@ -21,17 +24,17 @@ pub extern "C" fn mtb_disagreement(
     y: i32,
     disagreeing: &mut u64,
     compared: &mut u64,
+    values: &mut [usize; 5],
 ) -> u32
-    ensures status { λ r. ⌜ r ≡ statusOf (answer (countingChecks width height «target_width» «target_height» (now («reference_threshold» .entry)) (now («reference_exclusion» .entry)) (now («target_threshold» .entry)) (now («target_exclusion» .entry))) (tt {0})) ⌝ }
-    ensures disagreeing { λ _. ⌜
-        now (disagreeing .exit) ≡ after (countingChecks width height «target_width» «target_height» (now («reference_threshold» .entry)) (now («reference_exclusion» .entry)) (now («target_threshold» .entry)) (now («target_exclusion» .entry)))
-        (counts width height (bitmapsIn width (now («reference_threshold» .entry)) (now («reference_exclusion» .entry))) (bitmapsIn width (now («target_threshold» .entry)) (now («target_exclusion» .entry))) (shift x y) .disagreeing)
-        (now (disagreeing .entry))
-        ⌝ }
-    ensures compared { λ _. ⌜
-        now (compared .exit) ≡ after (countingChecks width height «target_width» «target_height» (now («reference_threshold» .entry)) (now («reference_exclusion» .entry)) (now («target_threshold» .entry)) (now («target_exclusion» .entry)))
-        (counts width height (bitmapsIn width (now («reference_threshold» .entry)) (now («reference_exclusion» .entry))) (bitmapsIn width (now («target_threshold» .entry)) (now («target_exclusion» .entry))) (shift x y) .compared)
-        (now (compared .entry))
+    ensures { λ r. ⌜
+        (let reference : Bitmaps = bitmapsIn width (now («reference_threshold» .entry)) (now («reference_exclusion» .entry)) in
+        let target : Bitmaps = bitmapsIn width (now («target_threshold» .entry)) (now («target_exclusion» .entry)) in
+        let checks : List Check = countingChecks width height «target_width» «target_height»
+        (now («reference_threshold» .entry)) (now («reference_exclusion» .entry)) (now («target_threshold» .entry)) (now («target_exclusion» .entry)) in
+        (r ≡ statusOf (answer checks (tt {0})))
+        × (now (disagreeing .exit) ≡ after checks (counts width height reference target (shift x y) .disagreeing) (now (disagreeing .entry)))
+        × (now (compared .exit) ≡ after checks (counts width height reference target (shift x y) .compared) (now (compared .entry)))
+        × (now (values .exit) ≡ valuesAfter (answer checks (tt {0})) (now (values .entry))))
         ⌝ }
 {
     match mtb_align::difference::disagreement(
@@ -50,6 +53,9 @@ pub extern "C" fn mtb_disagreement(
             *compared = c.compared;
             0
         }
-        CountsAnswer::Refused(e) => e.number(),
+        CountsAnswer::Refused(e) => {
+            put_values(e, values);
+            e.number()
+        }
     }
 }

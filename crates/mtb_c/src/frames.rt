@@ -5,18 +5,17 @@ use mtb_align::error::Outcome;
 use mtb_align::shrink::Shrink;
 use mtb_align::threshold::CutAnswer;
 ghost use mathlib.Core.Path.{_≡_};
-ghost use mathlib.Core.Bool.{Bool, cond};
-ghost use Prim.Native.Nat.{_≤_};
-ghost use lib.Dec.{eqb, ltb};
-ghost use lib.ListN.{length};
-ghost use lib.Seq.{sets};
+ghost use mathlib.Core.Bool.{cond};
+ghost use Prim.Native.Nat.{_*_};
+ghost use lib.Dec.{eqb};
+ghost use lib.ListN.{length, take, drop};
 ghost use Rattle.definitions.specs.Gray.{fromRgb};
 ghost use Rattle.definitions.specs.Shrink.{average, subsample, shrink2};
 ghost use Rattle.definitions.specs.Sum.{bit};
 ghost use Rattle.definitions.specs.Threshold.{cut as cutOf};
-ghost use Rattle.definitions.specs.Bitmap.{packed, bitAt, withBit, total as totalOf};
+ghost use Rattle.definitions.specs.Bitmap.{wordsPerRow, packed, bitAt, withBit, total as totalOf};
 ghost use Rattle.definitions.specs.Difference.{bitmapsOf};
-ghost use Rattle.definitions.specs.Refusals.{answer, after, fromRgbChecks, shrinkChecks, cutChecks, packingChecks, pixelChecks, totalChecks};
+ghost use Rattle.definitions.specs.Refusals.{answer, after, fromRgbChecks, shrinkChecks, cutChecks, packingChecks, pixelChecks, totalChecks, rowChecks};
 ghost use Rattle.mtb_align.specs.Answers.{outcome, modeOf};
 ghost use Rattle.mtb_c.specs.Status.{statusOf, rowPart};
 
@@ -155,34 +154,20 @@ pub extern "C" fn mtb_count_ones(words: &[u64], width: usize, height: usize, tot
     }
 }
 
-fn copy(from: &[u64], to: &mut [u64])
-    requires { ⌜ length (now from) ≤ length (now to) ⌝ }
-    ensures { λ _. ⌜ now (to .exit) ≡ sets (now (to .entry)) 0 (now (from .entry)) ⌝ }
-{
-    let mut i: usize = 0;
-    while i < from.len() {
-        to[i] = from[i];
-        i += 1;
-    }
-}
-
-// The words of row y at the front of `out`, where they fit; the answer is how many they are, none where the call is refused.
+// Row y as a part of the words: how many it has, and into `start` where it stands; both 0 where 1, 2 or 11 holds.
 #[no_mangle]
 pub extern "C" fn mtb_row(
     words: &[u64],
     width: usize,
     height: usize,
     y: usize,
-    out: &mut [u64],
+    start: &mut usize,
 ) -> usize
-    ensures count { λ r. ⌜ r ≡ length (rowPart (now (words .entry)) width height y) ⌝ }
-    ensures out { λ _. ⌜ now (out .exit) ≡ cond (ltb (length (now (out .entry))) (length (rowPart (now (words .entry)) width height y))) (now (out .entry)) (sets (now (out .entry)) 0 (rowPart (now (words .entry)) width height y)) ⌝ }
+    ensures count { λ r. ⌜ r ≡ after (rowChecks width height (length (now (words .entry))) y) (wordsPerRow width) 0 ⌝ }
+    ensures start { λ _. ⌜ now (start .exit) ≡ after (rowChecks width height (length (now (words .entry))) y) (y * wordsPerRow width) 0 ⌝ }
+    ensures part { λ r. ⌜ rowPart (now (words .entry)) width height y ≡ take r (drop (now (start .exit)) (now (words .entry))) ⌝ }
 {
-    let part = mtb_align::bitmap::row(words, width, height, y);
-    let n = part.len();
-    if n > out.len() {
-        return n;
-    }
-    copy(part, out);
+    let n = mtb_align::bitmap::row(words, width, height, y).len();
+    *start = y * n;
     n
 }

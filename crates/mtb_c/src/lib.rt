@@ -1,8 +1,10 @@
 // The calls of the port for C and Rust callers: numbers pass as themselves, a slice as a pointer and a length. A call answers with a
-// status, 0 for accepted and else document 01's number; outputs go into lent slots, which a refusal leaves as they were. The values
-// of a refused stack or report go into a list of five.
+// status, 0 for accepted and else document 01's number; a row and a level, which are never refused, answer with a length. Outputs go
+// into lent slots: no call reads one, and a refusal leaves it as it was, so that the record count is written by an accepted report
+// alone. The values of a refusal of the counts, the step, the stack or the report go to the front of a list of five.
 pub mod counts;
 pub mod frames;
+pub mod levels;
 pub mod moves;
 mod refusals;
 pub mod report;

@@ -2,14 +2,11 @@
 use mtb_align::error::Error;
 use mtb_align::error::Outcome;
 ghost use mathlib.Core.Path.{_≡_};
-ghost use mathlib.Core.Bool.{cond};
-ghost use lib.Dec.{eqb};
-ghost use lib.ListN.{getD};
 ghost use lib.Seq.{sets};
-ghost use Rattle.mtb_align.specs.Answers.{numberOf, valuesOf, outcome};
+ghost use Rattle.mtb_align.specs.Answers.{valuesOf, outcome};
 ghost use Rattle.mtb_c.specs.Status.{statusOf, valuesAfter};
 
-// The values of a refusal at the front of a list.
+// The values of a refusal at the front of a list, which is written and never read.
 pub(crate) fn put_values(e: Error, values: &mut [usize; 5])
     ensures { λ _. ⌜ now (values .exit) ≡ sets (now (values .entry)) 0 (valuesOf e) ⌝ }
 {
@@ -35,16 +32,6 @@ pub(crate) fn put_values(e: Error, values: &mut [usize; 5])
             values[0] = n;
         }
         _ => {}
-    }
-}
-
-// The number of records that a refusal asks for, else the one at hand.
-pub(crate) fn records_needed(e: Error, old: usize) -> usize
-    ensures { λ r. ⌜ r ≡ cond (eqb (numberOf e) 10) (getD (valuesOf e) 0 0) old ⌝ }
-{
-    match e {
-        Error::Records(n) => n,
-        _ => old,
     }
 }
 

@@ -1,7 +1,6 @@
 // The report of a stack.
 use super::frames::mode;
 use super::refusals::put_values;
-use super::refusals::records_needed;
 use mtb_align::align::Options;
 use mtb_align::report::ReportAnswer;
 use mtb_align::report::Terms;
@@ -12,9 +11,10 @@ ghost use Rattle.definitions.specs.Align as stacks;
 ghost use Rattle.definitions.specs.Refusals.{answer, after, Scratch};
 ghost use Rattle.definitions.specs.Report as reports;
 ghost use Rattle.mtb_align.specs.Survey.{Asked, stackAsked, firstChecks, allChecks, reportedOf, recordSpace, bytesNeeded, wordsNeeded};
-ghost use Rattle.mtb_c.specs.Status.{statusOf, valuesAfter, recordCount, optionsOf, termsOf};
+ghost use Rattle.mtb_c.specs.Status.{statusOf, valuesAfter, optionsOf, termsOf};
 
-// The crop's left, top, width and height, and the number of records: those written, or under 10 those needed.
+// The crop's left, top, width and height, and the number of records, from an accepted report alone: how many records 10 asks for is
+// the first of the values.
 #[no_mangle]
 pub extern "C" fn mtb_report(
     widths: &[usize],
@@ -41,7 +41,20 @@ pub extern "C" fn mtb_report(
     values: &mut [usize; 5],
 ) -> u32
     ensures { λ r. ⌜
-        (let a : Asked = record { widths = now (widths .entry); heights = now (heights .entry); samples = now (samples .entry); reference = reference; percentile = percentile; options = optionsOf bits tolerance subsampled; terms = termsOf reach floor margin; shifts = length (now (shifts .entry)); verdicts = length (now (verdicts .entry)); records = length (now (records .entry)); bytes = length (now (bytes .entry)); words = length (now (words .entry)) } in
+        (let a : Asked = record {
+          widths = now (widths .entry);
+          heights = now (heights .entry);
+          samples = now (samples .entry);
+          reference = reference;
+          percentile = percentile;
+          options = optionsOf bits tolerance subsampled;
+          terms = termsOf reach floor margin;
+          shifts = length (now (shifts .entry));
+          verdicts = length (now (verdicts .entry));
+          records = length (now (records .entry));
+          bytes = length (now (bytes .entry));
+          words = length (now (words .entry));
+        } in
         (r ≡ statusOf (answer (allChecks a) (tt {0})))
         × (now (shifts .exit) ≡ after (allChecks a) (listed (stacks.shifts (stackAsked a))) (now (shifts .entry)))
         × (now (verdicts .exit) ≡ after (allChecks a) (reports.verdicts (stackAsked a) (a .terms)) (now (verdicts .entry)))
@@ -52,7 +65,7 @@ pub extern "C" fn mtb_report(
         × (now (top .exit) ≡ after (allChecks a) (reportedOf a .crop .y) (now (top .entry)))
         × (now (wide .exit) ≡ after (allChecks a) (reportedOf a .crop .width) (now (wide .entry)))
         × (now (high .exit) ≡ after (allChecks a) (reportedOf a .crop .height) (now (high .entry)))
-        × (now (count .exit) ≡ recordCount (answer (allChecks a) (reportedOf a)) (now (count .entry)))
+        × (now (count .exit) ≡ after (allChecks a) (reportedOf a .records) (now (count .entry)))
         × (now (values .exit) ≡ valuesAfter (answer (allChecks a) (tt {0})) (now (values .entry))))
         ⌝ }
 {
@@ -90,7 +103,6 @@ pub extern "C" fn mtb_report(
         }
         ReportAnswer::Refused(e) => {
             put_values(e, values);
-            *count = records_needed(e, *count);
             e.number()
         }
     }

@@ -1,17 +1,21 @@
 // The step of two frames and the stack.
 use super::frames::mode;
+use super::refusals::put_values;
 use super::refusals::status_with;
 use mtb_align::align::Options;
 use mtb_align::align::StepAnswer;
 ghost use mathlib.Core.Path.{_≡_};
+ghost use mathlib.Core.List.{List};
+ghost use Prim.Native.Nat.{ℕ};
 ghost use lib.ListN.{length, getD};
 ghost use Rattle.definitions.specs.Geometry.{listed};
-ghost use Rattle.definitions.specs.Align.{step, comparisons as comparisonsOf, stackOf, stepBytes, stepWords, stackNeed};
+ghost use Rattle.definitions.specs.Align.{Exposure, step, comparisons as comparisonsOf, stackOf, stepBytes, stepWords, stackNeed};
 ghost use Rattle.definitions.specs.Align as stacks;
-ghost use Rattle.definitions.specs.Refusals.{answer, after, Scratch, stepChecks, stackChecks};
+ghost use Rattle.definitions.specs.Refusals.{Check, answer, after, Scratch, stepChecks, stackChecks};
 ghost use Rattle.mtb_align.specs.Search.{exposureOf};
 ghost use Rattle.mtb_c.specs.Status.{statusOf, valuesAfter, optionsOf};
 
+// The step and its comparisons. Refusal 4 gives both sizes.
 #[no_mangle]
 pub extern "C" fn mtb_shift(
     reference: &[u8],
@@ -29,13 +33,22 @@ pub extern "C" fn mtb_shift(
     x: &mut i32,
     y: &mut i32,
     comparisons: &mut u64,
+    values: &mut [usize; 5],
 ) -> u32
-    ensures status { λ r. ⌜ r ≡ statusOf (answer (stepChecks width height «target_width» «target_height» percentile bits (length (now (reference .entry))) (length (now (target .entry))) (length (now (bytes .entry))) (length (now (words .entry)))) (tt {0})) ⌝ }
-    ensures bytes { λ _. ⌜ Scratch (stepChecks width height «target_width» «target_height» percentile bits (length (now (reference .entry))) (length (now (target .entry))) (length (now (bytes .entry))) (length (now (words .entry)))) (stepBytes width height bits) (now (bytes .entry)) (now (bytes .exit)) ⌝ }
-    ensures words { λ _. ⌜ Scratch (stepChecks width height «target_width» «target_height» percentile bits (length (now (reference .entry))) (length (now (target .entry))) (length (now (bytes .entry))) (length (now (words .entry)))) (stepWords width height) (now (words .entry)) (now (words .exit)) ⌝ }
-    ensures x { λ _. ⌜ now (x .exit) ≡ after (stepChecks width height «target_width» «target_height» percentile bits (length (now (reference .entry))) (length (now (target .entry))) (length (now (bytes .entry))) (length (now (words .entry)))) (step (optionsOf bits tolerance subsampled) width height (exposureOf (now (reference .entry)) percentile) (exposureOf (now (target .entry)) percentile) .x) (now (x .entry)) ⌝ }
-    ensures y { λ _. ⌜ now (y .exit) ≡ after (stepChecks width height «target_width» «target_height» percentile bits (length (now (reference .entry))) (length (now (target .entry))) (length (now (bytes .entry))) (length (now (words .entry)))) (step (optionsOf bits tolerance subsampled) width height (exposureOf (now (reference .entry)) percentile) (exposureOf (now (target .entry)) percentile) .y) (now (y .entry)) ⌝ }
-    ensures comparisons { λ _. ⌜ now (comparisons .exit) ≡ after (stepChecks width height «target_width» «target_height» percentile bits (length (now (reference .entry))) (length (now (target .entry))) (length (now (bytes .entry))) (length (now (words .entry)))) (comparisonsOf (optionsOf bits tolerance subsampled) width height (exposureOf (now (reference .entry)) percentile) (exposureOf (now (target .entry)) percentile)) (now (comparisons .entry)) ⌝ }
+    ensures { λ r. ⌜
+        (let options : stacks.Options = optionsOf bits tolerance subsampled in
+        let first : Exposure = exposureOf (now (reference .entry)) percentile in
+        let second : Exposure = exposureOf (now (target .entry)) percentile in
+        let checks : List Check = stepChecks width height «target_width» «target_height» percentile bits
+        (length (now (reference .entry))) (length (now (target .entry))) (length (now (bytes .entry))) (length (now (words .entry))) in
+        (r ≡ statusOf (answer checks (tt {0})))
+        × Scratch checks (stepBytes width height bits) (now (bytes .entry)) (now (bytes .exit))
+        × Scratch checks (stepWords width height) (now (words .entry)) (now (words .exit))
+        × (now (x .exit) ≡ after checks (step options width height first second .x) (now (x .entry)))
+        × (now (y .exit) ≡ after checks (step options width height first second .y) (now (y .entry)))
+        × (now (comparisons .exit) ≡ after checks (comparisonsOf options width height first second) (now (comparisons .entry)))
+        × (now (values .exit) ≡ valuesAfter (answer checks (tt {0})) (now (values .entry))))
+        ⌝ }
 {
     let options = Options {
         bits,
@@ -62,7 +75,10 @@ pub extern "C" fn mtb_shift(
             *comparisons = s.comparisons;
             0
         }
-        StepAnswer::Refused(e) => e.number(),
+        StepAnswer::Refused(e) => {
+            put_values(e, values);
+            e.number()
+        }
     }
 }
 
@@ -81,11 +97,19 @@ pub extern "C" fn mtb_align_stack(
     words: &mut [u64],
     values: &mut [usize; 5],
 ) -> u32
-    ensures status { λ r. ⌜ r ≡ statusOf (answer (stackChecks (now (widths .entry)) (now (heights .entry)) percentile reference bits (length (now (samples .entry))) (length (now (shifts .entry))) (length (now (bytes .entry))) (length (now (words .entry)))) (tt {0})) ⌝ }
-    ensures shifts { λ _. ⌜ now (shifts .exit) ≡ after (stackChecks (now (widths .entry)) (now (heights .entry)) percentile reference bits (length (now (samples .entry))) (length (now (shifts .entry))) (length (now (bytes .entry))) (length (now (words .entry)))) (listed (stacks.shifts (stackOf (now (widths .entry)) (now (heights .entry)) (now (samples .entry)) reference percentile (optionsOf bits tolerance subsampled)))) (now (shifts .entry)) ⌝ }
-    ensures bytes { λ _. ⌜ Scratch (stackChecks (now (widths .entry)) (now (heights .entry)) percentile reference bits (length (now (samples .entry))) (length (now (shifts .entry))) (length (now (bytes .entry))) (length (now (words .entry)))) (stackNeed (length (now (widths .entry))) (stepBytes (getD (now (widths .entry)) 0 0) (getD (now (heights .entry)) 0 0) bits)) (now (bytes .entry)) (now (bytes .exit)) ⌝ }
-    ensures words { λ _. ⌜ Scratch (stackChecks (now (widths .entry)) (now (heights .entry)) percentile reference bits (length (now (samples .entry))) (length (now (shifts .entry))) (length (now (bytes .entry))) (length (now (words .entry)))) (stackNeed (length (now (widths .entry))) (stepWords (getD (now (widths .entry)) 0 0) (getD (now (heights .entry)) 0 0))) (now (words .entry)) (now (words .exit)) ⌝ }
-    ensures values { λ _. ⌜ now (values .exit) ≡ valuesAfter (answer (stackChecks (now (widths .entry)) (now (heights .entry)) percentile reference bits (length (now (samples .entry))) (length (now (shifts .entry))) (length (now (bytes .entry))) (length (now (words .entry)))) (tt {0})) (now (values .entry)) ⌝ }
+    ensures { λ r. ⌜
+        (let n : ℕ = length (now (widths .entry)) in
+        let w : ℕ = getD (now (widths .entry)) 0 0 in
+        let h : ℕ = getD (now (heights .entry)) 0 0 in
+        let stack : stacks.Stack = stackOf (now (widths .entry)) (now (heights .entry)) (now (samples .entry)) reference percentile (optionsOf bits tolerance subsampled) in
+        let checks : List Check = stackChecks (now (widths .entry)) (now (heights .entry)) percentile reference bits
+        (length (now (samples .entry))) (length (now (shifts .entry))) (length (now (bytes .entry))) (length (now (words .entry))) in
+        (r ≡ statusOf (answer checks (tt {0})))
+        × (now (shifts .exit) ≡ after checks (listed (stacks.shifts stack)) (now (shifts .entry)))
+        × Scratch checks (stackNeed n (stepBytes w h bits)) (now (bytes .entry)) (now (bytes .exit))
+        × Scratch checks (stackNeed n (stepWords w h)) (now (words .entry)) (now (words .exit))
+        × (now (values .exit) ≡ valuesAfter (answer checks (tt {0})) (now (values .entry))))
+        ⌝ }
 {
     let options = Options {
         bits,

@@ -1,8 +1,6 @@
 -- `mtb_c::report::mtb_report` meets its contract. Assumes nothing.
 use mathlib.Core.Path.{sym, ap, _∙_}
-use Rattle.definitions.specs.Refusals.{Answer}
 use Rattle.mtb_align.specs.Survey.{Reported, reportAnswer}
-use Rattle.mtb_c.specs.Status.{recordCount}
 use Rattle.mtb_c.proofs.Slots.{status-accepted, stored, values-kept, status-refused, kept, values-told}
 use borrow.Author.Needs.{needs}
 use Rattle.mtb_c.proofs.report.mtb_report.Statement.{statement}
@@ -22,9 +20,6 @@ enum-known-e c = search needs
 
 put-values-requires : tie.Need-put-values-requires
 put-values-requires c κs = search needs
-
-records-needed-requires : tie.Need-records-needed-requires
-records-needed-requires c κs = search needs
 
 number-requires : tie.Need-number-requires
 number-requires c κs = search needs
@@ -48,7 +43,6 @@ returns : tie.Need-returns
 returns c =
     let r = c .before .before .before .before .before .before .before .before .before .before .before .before .report .ensures in
     let m = c .before .before .before .before .before .before .before .before .before .before .before .before .before .before .before .before .before .before .mode .ensures in
-    let a = c .before .before .before .before .before .before .before .before .before .before .before .before .before .before .before .before .before .before .before .before .before .before .before .before .before .before .args in
     let e = rw m at (sym (ap reportAnswer (c .before .s .given .1)) ∙ r .0) in (
       status-accepted _ _ e,
       rw (← m) (r .1),
@@ -60,7 +54,7 @@ returns c =
       stored _ _ e (λ (k : Reported). k .crop .y) _,
       stored _ _ e (λ (k : Reported). k .crop .width) _,
       stored _ _ e (λ (k : Reported). k .crop .height) _,
-      ap (λ (k : Answer Reported). recordCount k (a .count .now)) e,
+      stored _ _ e (λ (k : Reported). k .records) _,
       values-kept _ _ e _,
     )
 
@@ -81,10 +75,9 @@ same-length-10 c = search needs
 
 returns-2 : tie.Need-returns-2
 returns-2 c =
-    let r = c .before .before .before .before .before .before .before .before .before .before .before .before .before .before .before .before .before .report .ensures in
-    let m = c .before .before .before .before .before .before .before .before .before .before .before .before .before .before .before .before .before .before .before .before .before .before .before .mode .ensures in
-    let a = c .before .before .before .before .before .before .before .before .before .before .before .before .before .before .before .before .before .before .before .before .before .before .before .before .before .before .before .before .before .before .before .args in
-    let e = rw m at (sym (ap reportAnswer (c .before .before .before .before .before .before .e .given .1)) ∙ r .0) in (
+    let r = c .before .before .before .before .before .before .before .before .before .before .before .before .before .before .before .report .ensures in
+    let m = c .before .before .before .before .before .before .before .before .before .before .before .before .before .before .before .before .before .before .before .before .before .mode .ensures in
+    let e = rw m at (sym (ap reportAnswer (c .before .before .before .before .e .given .1)) ∙ r .0) in (
       status-refused _ _ e (c .number .ensures),
       rw (← m) (r .1),
       rw (← m) (r .2),
@@ -95,8 +88,8 @@ returns-2 c =
       kept _ _ e _ _,
       kept _ _ e _ _,
       kept _ _ e _ _,
-      c .before .records-needed .ensures ∙ ap (λ (k : Answer Reported). recordCount k (a .count .now)) e,
-      values-told _ _ e _ (c .before .before .before .put-values .ensures),
+      kept _ _ e _ _,
+      values-told _ _ e _ (c .before .put-values .ensures),
     )
 
 pub mtb-report-spec : {M : Type 1} → statement M
@@ -108,7 +101,6 @@ mtb-report-spec =
     enum-known-s
     enum-known-e
     put-values-requires
-    records-needed-requires
     number-requires
     same-length
     same-length-2

@@ -30,7 +30,7 @@ returns c =
     let m = c .before .before .before .before .before .before .before .before .before .before .before .mode .ensures in
     let v = c .before .before .before .before .before .before .before .before .before .before .before .before .before .before .before .before .before .args .values .now in
     let told = c .status-with .ensures in
-    (told .0 ∙ ap statusOf (r .0), (rw (← m) (r .1 .0), (r .1 .1 .0, (r .1 .1 .1, told .1 ∙ ap (λ (a : Answer (Unit {0})). valuesAfter a v) (r .0)))))
+    (told .0 ∙ ap statusOf (r .0), rw (← m) (r .1 .0), r .1 .1 .0, r .1 .1 .1, told .1 ∙ ap (λ (a : Answer (Unit {0})). valuesAfter a v) (r .0))
 
 pub mtb-align-stack-spec : {M : Type 1} → statement M
 mtb-align-stack-spec =

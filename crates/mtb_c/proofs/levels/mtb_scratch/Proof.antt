@@ -1,0 +1,35 @@
+-- `mtb_c::levels::mtb_scratch` meets its contract. Assumes nothing.
+use mathlib.Core.Path.{sym, ap, _∙_}
+use borrow.Author.Needs.{needs}
+use Rattle.definitions.specs.Align.{Need}
+use Rattle.mtb_align.specs.Answers.{needAnswer}
+use Rattle.mtb_c.proofs.Slots.{status-accepted, stored, status-refused, kept}
+use Rattle.mtb_c.proofs.levels.mtb_scratch.Statement.{statement}
+use Rattle.mtb_c.proofs.levels.mtb_scratch.Tie as tie
+
+scratch-needed-requires : tie.Need-scratch-needed-requires
+scratch-needed-requires c κs = search needs
+
+enum-known-n : tie.Need-enum-known-n
+enum-known-n c = search needs
+
+enum-known-e : tie.Need-enum-known-e
+enum-known-e c = search needs
+
+number-requires : tie.Need-number-requires
+number-requires c κs = search needs
+
+returns : tie.Need-returns
+returns c =
+    let e = sym (ap needAnswer (c .before .n .given .1)) ∙ c .before .before .before .scratch-needed .ensures in
+    (status-accepted _ _ e, (stored _ _ e (λ (n : Need). n .bytes) _, stored _ _ e (λ (n : Need). n .words) _))
+
+returns-2 : tie.Need-returns-2
+returns-2 c =
+    let e = sym (ap needAnswer (c .before .before .e .given .1)) ∙ c .before .before .before .before .scratch-needed .ensures in
+    (status-refused _ _ e (c .number .ensures), (kept _ _ e _ _, kept _ _ e _ _))
+
+pub mtb-scratch-spec : {M : Type 1} → statement M
+mtb-scratch-spec =
+    tie.close
+    (tie.spec scratch-needed-requires enum-known-n enum-known-e number-requires returns returns-2)
