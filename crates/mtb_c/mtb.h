@@ -1,20 +1,25 @@
 /*
- * The port's calls for C callers. Link libmtb_c.a, which `rt staticlib mtb_c` writes to target/staticlib (x86-64).
+ * mtb.h: image registration by median threshold bitmaps, every call proved. Version 1.0.0.
  *
- * A call returns its status: 0 accepted, else the number of the first check that fails, in the order given with the call.
- *    1  side over 8,192                           7  scratch too short
- *    2  list or buffer of the wrong length        8  padding bit set
- *    3  percentile over 100                       9  reach over 64
- *    4  sizes differ                             10  record space too short
- *    5  no such reference                        11  pixel outside
- *    6  over 16 frames                           12  coordinate outside 32 bits
- * A refused call changes no buffer, but for what the stack and the report say below.
+ * Link libmtb_c.a, which `rt staticlib mtb_c` writes to target/staticlib (x86-64). docs/CALLS.md has each call in full.
  *
- * A list passes as a pointer and its length in elements. Pointers are aligned and never null, not at length 0 either, and what a
- * call writes overlaps nothing else that it is lent.
+ * Status. A call returns 0 where it is accepted, else the number of the first check that fails, in the order given with the call
+ * after "Refused:". A refused call writes nothing but `values`, and under 10 the scratch.
  *
- * A frame has width * height samples, row by row. A bitmap has ceil(width / 64) words a row, lowest bit first; the bits of a row
- * past the width are its padding.
+ * Lists. A list passes as a pointer and its length in elements. Its length is exactly the one given with the call; only scratch and
+ * record space may be longer, and then what lies past the need stays as it was. Pointers are aligned and never null, not at length 0
+ * either, and what a call writes overlaps nothing else that it is lent.
+ *
+ * Slots, such as `x` or `count`, are only written, and only where the call is accepted: they need not be set before. `values` is
+ * written at its front by the refusals that carry values (4, 5 and 10), as said below, and else left alone.
+ *
+ * Frames. A frame has width * height samples, row by row, one byte each; a side may be 0. A bitmap has ceil(width / 64) words a
+ * row, lowest bit first; the bits of a row past the width are its padding. A stack's frames stand one after another in exposure
+ * order, from the darkest to the brightest or the other way: each is compared with the one next to it, and frames that lie far apart
+ * in exposure compare badly. A shift (x, y) moves right and down.
+ *
+ * There is no state and no allocation. Calls may run at the same time on separate buffers. MTB_STACK bytes of stack suffice for every
+ * call; a thread that calls needs them beside its own.
  */
 #ifndef MTB_H
 #define MTB_H
@@ -27,19 +32,61 @@
 extern "C" {
 #endif
 
-/* Grey from RGB: (54 red + 183 green + 19 blue) / 256, rounded down. Refused: 1; 2 for rgb (3 bytes a pixel), gray. Writes gray. */
+#define MTB_VERSION "1.0.0"
+
+/* Limits. */
+#define MTB_MOST_SIDE 8192
+#define MTB_MOST_FRAMES 16
+#define MTB_MOST_REACH 64
+#define MTB_STACK 98304
+
+/* How a search is run, with the usual choice. docs/TERMS.md says how to choose.
+   bits         a step reaches 2^bits - 1 pixels on each axis, less on small frames: L is the least of bits - 1, log2(longest side) - 1
+                and log2(shortest side), logarithms rounded down and nothing below 0, and the step lies within 2^(L + 1) - 1. Any number is taken.
+   tolerance    samples within this distance of the cut are not compared.
+   percentile   0 to 100: the share of a frame's samples that the cut leaves below it. 50 is the median.
+   subsampled   how frames are halved: MTB_AVERAGE takes the mean of four samples, MTB_SUBSAMPLE the upper left one. */
+#define MTB_BITS 6
+#define MTB_TOLERANCE 4
+#define MTB_PERCENTILE 50
+#define MTB_AVERAGE false
+#define MTB_SUBSAMPLE true
+
+/* The numbers of a status. */
+enum mtb_status {
+    MTB_ACCEPTED = 0,
+    MTB_SIDE = 1,        /* a side over 8,192 */
+    MTB_LENGTH = 2,      /* a list or buffer of the wrong length */
+    MTB_OVER_100 = 3,    /* a percentile over 100 */
+    MTB_SIZES = 4,       /* sizes differ */
+    MTB_NO_FRAME = 5,    /* no such reference */
+    MTB_FRAMES = 6,      /* over 16 frames */
+    MTB_SCRATCH = 7,     /* scratch too short */
+    MTB_PADDING = 8,     /* a padding bit set */
+    MTB_REACH = 9,       /* a reach over 64 */
+    MTB_RECORDS = 10,    /* record space too short */
+    MTB_PIXEL = 11,      /* a pixel outside */
+    MTB_COORDINATE = 12  /* a coordinate outside 32 bits */
+};
+
+/* ---- single frames ---- */
+
+/* Grey from RGB: (54 red + 183 green + 19 blue) / 256, rounded down. rgb has 3 bytes a pixel. Refused: 1; 2 for rgb, gray. Writes gray. */
 uint32_t mtb_from_rgb(const uint8_t *rgb, size_t rgb_length, size_t width, size_t height,
                       uint8_t *gray, size_t gray_length);
 
-/* Halves both sides, rounded down: (sum of four + 2) / 4, or the upper left if subsampled. Refused: 1; 2 for samples, shrunk. Writes shrunk. */
+/* Halves both sides, rounded down: (sum of four + 2) / 4, rounded down, or the upper left sample. shrunk has (width / 2) * (height / 2).
+   Refused: 1; 2 for samples, shrunk. Writes shrunk. */
 uint32_t mtb_shrink2(const uint8_t *samples, size_t samples_length, size_t width, size_t height,
                      bool subsampled, uint8_t *shrunk, size_t shrunk_length);
 
-/* The cut, 0 to 256: how many bins from 0 up it takes to hold samples * percentile / 100. Refused: 1; 2 for samples; 3. Writes cut. */
+/* The cut, 0 to 256: how many bins from 0 up it takes to hold samples * percentile / 100, rounded down. Refused: 1; 2 for samples; 3.
+   Writes cut. */
 uint32_t mtb_threshold(const uint8_t *samples, size_t samples_length, size_t width, size_t height,
                        uint8_t percentile, uint16_t *cut);
 
-/* Sets bits above the cut, and bits farther from it than tolerance. Refused: 1; 2 for samples, either bitmap; 3. Writes both, padding clear. */
+/* Packs two bitmaps, each of height * ceil(width / 64) words: bits above the cut, and bits farther from it than tolerance.
+   Refused: 1; 2 for samples, threshold, exclusion; 3. Writes both, padding clear. */
 uint32_t mtb_compute_bitmaps(const uint8_t *samples, size_t samples_length, size_t width, size_t height,
                              uint8_t percentile, uint8_t tolerance,
                              uint64_t *threshold, size_t threshold_length,
@@ -57,9 +104,30 @@ uint32_t mtb_set(uint64_t *words, size_t words_length, size_t width, size_t heig
 uint32_t mtb_count_ones(const uint64_t *words, size_t words_length, size_t width, size_t height,
                         uint64_t *total);
 
-/* Returns, in place of a status, the number of words of row y: 0 where 1, 2 or 11 holds. Writes them to the front of out if they fit. */
+/* Row y of a bitmap as a part of words: returns how many words it has, in place of a status, and writes to start where it stands.
+   Both are 0 where 1, 2 or 11 holds. */
 size_t mtb_row(const uint64_t *words, size_t words_length, size_t width, size_t height,
-               size_t y, uint64_t *out, size_t out_length);
+               size_t y, size_t *start);
+
+/* ---- levels ---- */
+
+/* The scratch of a step, a stack or a report of frames of this size: bytes, twice the samples of the halved levels 1 to L, which is
+   the sum over k of (width / 2^k) * (height / 2^k), each rounded down; words, 4 * height * ceil(width / 64). At most 44,739,240 bytes and
+   4,194,304 words. A pyramid needs half the bytes; a stack or report of one frame needs none. Refused: 1. Writes bytes, words. */
+uint32_t mtb_scratch(size_t width, size_t height, uint32_t bits, size_t *bytes, size_t *words);
+
+/* Writes the halved levels 1 to L of a frame one after another to the front of scratch. Refused: 1; 2 for samples; 7. */
+uint32_t mtb_pyramid(const uint8_t *samples, size_t samples_length, size_t width, size_t height,
+                     uint32_t bits, bool subsampled, uint8_t *scratch, size_t scratch_length);
+
+/* Level k of a frame, 0 for the frame itself, as a part of frame or of the scratch that mtb_pyramid filled: returns how many samples it
+   has, in place of a status, and writes which of the two it is in and where it starts. The part is empty, with false and 0, past level L
+   and where 1, 2 (for frame) or 7 holds. */
+size_t mtb_level(const uint8_t *frame, size_t frame_length, size_t width, size_t height,
+                 uint32_t bits, const uint8_t *scratch, size_t scratch_length,
+                 size_t k, bool *in_scratch, size_t *start);
+
+/* ---- shifts and crops ---- */
 
 /* Doubles a shift. Refused: 12. Writes new_x, new_y. */
 uint32_t mtb_doubled(int32_t x, int32_t y, int32_t *new_x, int32_t *new_y);
@@ -71,32 +139,42 @@ uint32_t mtb_offset(int32_t x, int32_t y, int32_t by_x, int32_t by_y, int32_t *n
 uint32_t mtb_shifted(const uint8_t *samples, size_t samples_length, size_t width, size_t height,
                      int32_t x, int32_t y, uint8_t *moved, size_t moved_length);
 
-/* The crop that every frame covers once moved by its shift (x, then y). Refused: 1; 2 for an odd list. Writes left, top, wide, high. */
+/* The crop that every frame covers once moved by its shift. shifts has x, then y for each frame. An empty crop has a width or height of 0.
+   Refused: 1; 2 for an odd list. Writes left, top, wide, high. */
 uint32_t mtb_common_crop(const int32_t *shifts, size_t shifts_length, size_t width, size_t height,
                          size_t *left, size_t *top, size_t *wide, size_t *high);
 
-/* The counts of two packed pairs at a shift, of places that compare and of those that disagree. Refused: 1 for either size; 4; 2 for any of
-   the four bitmaps; 8. Writes disagreeing, compared. */
+/* ---- two frames ---- */
+
+/* The counts of two packed pairs at a shift of the target: pixels that compare, and those of them that disagree. Refused: 1 for either
+   size; 4; 2 for any of the four bitmaps; 8. Writes disagreeing, compared. Refused by 4, writes values: width and height of the reference,
+   then of the target. */
 uint32_t mtb_disagreement(const uint64_t *reference_threshold, size_t reference_threshold_length,
                           const uint64_t *reference_exclusion, size_t reference_exclusion_length,
                           size_t width, size_t height,
                           const uint64_t *target_threshold, size_t target_threshold_length,
                           const uint64_t *target_exclusion, size_t target_exclusion_length,
                           size_t target_width, size_t target_height,
-                          int32_t x, int32_t y, uint64_t *disagreeing, uint64_t *compared);
+                          int32_t x, int32_t y, uint64_t *disagreeing, uint64_t *compared,
+                          size_t values[5]);
 
-/* The step of two frames: the shift of the target. Refused: 1; 3; 4; 2 for either frame; 7. Writes x, y, comparisons, and the scratch that it
-   needs: of bytes, the halved levels of both; of words, 4 * ceil(width / 64) * height. */
+/* The step of two frames: how far the target has to move to sit on the reference. bytes and words are the scratch that mtb_scratch gives.
+   Refused: 1 for either size; 3; 4; 2 for reference, target; 7. Writes x, y, comparisons, and the scratch. Refused by 4, writes values:
+   width and height of the reference, then of the target. */
 uint32_t mtb_shift(const uint8_t *reference, size_t reference_length, size_t width, size_t height,
                    const uint8_t *target, size_t target_length, size_t target_width, size_t target_height,
                    uint32_t bits, uint8_t tolerance, uint8_t percentile, bool subsampled,
                    uint8_t *bytes, size_t bytes_length, uint64_t *words, size_t words_length,
-                   int32_t *x, int32_t *y, uint64_t *comparisons);
+                   int32_t *x, int32_t *y, uint64_t *comparisons, size_t values[5]);
 
-/* The shift of every frame of a stack, x then y, where samples has the frames one after another. Refused: 6; 2 for heights; 1; 3; 5; 4; 2 for
-   samples, shifts; 7. Writes shifts, and the scratch of a step of two of its frames, none for one frame. Refused by 5 or 4, writes the front of
-   values: under 5 the reference and the number of frames; under 4 width and height of a frame, those of the next on the walk away from the
-   reference, and the number of the latter. */
+/* ---- a stack ---- */
+
+/* The total shift of every frame of a stack, which lays it on frame `reference`: from there down to 0, then up, each frame steps against
+   the one next to it on the reference's side, its neighbour, and the steps are added up. widths and heights have one entry a frame, samples the
+   frames one after another, shifts 2 * frames entries: x, then y for each frame. bytes and words are the scratch that mtb_scratch gives.
+   Refused: 6; 2 for heights; 1; 3; 5; 4; 2 for samples, shifts; 7. Writes shifts and the scratch. Refused by 5, writes values: the
+   reference and the number of frames; by 4: width and height of a neighbour, those of the frame that differs from it, and that
+   frame's number. */
 uint32_t mtb_align_stack(const size_t *widths, size_t widths_length, const size_t *heights, size_t heights_length,
                          const uint8_t *samples, size_t samples_length, size_t reference,
                          uint32_t bits, uint8_t tolerance, uint8_t percentile, bool subsampled,
@@ -104,11 +182,30 @@ uint32_t mtb_align_stack(const size_t *widths, size_t widths_length, const size_
                          uint8_t *bytes, size_t bytes_length, uint64_t *words, size_t words_length,
                          size_t values[5]);
 
-/* Every rival of each frame's step: a shift within reach of the step that compares at least floor pixels and disagrees in at most margin more
-   than the step. Refused: as the stack, with verdicts after shifts in the last 2 and 9 before 7; 10. Writes shifts, the scratch of the
-   stack, verdicts (0 reference, 1 weak, 2 alone, 3 contested), the crop of the shifts (left, top, wide, high), count, and count records of 20
-   bytes to the front of records: frame, x, y, disagreeing, compared, 32 bits each, low byte first. Refused by 5 or 4, writes values as the stack
-   does; by 10, the number of records needed to count and to the first of values, and the scratch. Takes 70,000 bytes of stack. */
+/* A frame's verdict. It speaks of the shifts within reach of the frame's step and of no other: a rival that lies farther is not looked for.
+   A frame's total shift is to be trusted only if every frame from it to the reference, itself among them, is alone. */
+enum mtb_verdict {
+    MTB_REFERENCE = 0, /* the reference; it does not move */
+    MTB_WEAK = 1,      /* the step compares fewer than floor pixels: its shift is no measurement */
+    MTB_ALONE = 2,     /* the step is the only rival within reach */
+    MTB_CONTESTED = 3  /* the step is a rival, and so is another shift within reach */
+};
+
+/* A record: 20 bytes, five numbers of 32 bits, low byte first: frame, x, y, disagreeing, compared. x and y are signed (two's complement)
+   and relative to the frame's neighbour, as a step is, while `shifts` has totals. Frames rise, then y, then x. */
+#define MTB_RECORD 20
+
+/* The bytes that the records of a report can take at most: 4,992,300 for 16 frames and reach 64. */
+#define MTB_RECORD_SPACE(frames, reach) \
+    ((size_t)MTB_RECORD * ((frames) > 0 ? (size_t)(frames) - 1 : 0) * (2 * (size_t)(reach) + 1) * (2 * (size_t)(reach) + 1))
+
+/* The stack with every rival of each frame's step: a shift within reach of the step on both axes that compares at least floor pixels and
+   disagrees in at most margin more than the step. The step is a rival itself, unless the frame is weak; the reference has none. reach is 0 to 64,
+   floor and margin are any numbers of pixels. Lists and scratch are those of mtb_align_stack; verdicts has one entry a frame. A record
+   space of length 0 asks how many records there are: refused by 10 if there is one.
+   Refused: as the stack, with verdicts after shifts in the last 2 and 9 before 7; 10. Writes shifts, verdicts, the crop of the shifts (left, top,
+   wide, high), count, that many records at the front of records, and the scratch. Refused by 5 or 4, writes values as the stack does; by
+   10, the number of records needed to values[0], and the scratch. */
 uint32_t mtb_report(const size_t *widths, size_t widths_length, const size_t *heights, size_t heights_length,
                     const uint8_t *samples, size_t samples_length, size_t reference,
                     uint32_t bits, uint8_t tolerance, uint8_t percentile, bool subsampled,

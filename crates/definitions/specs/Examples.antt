@@ -11,7 +11,7 @@ use Rattle.definitions.specs.Shrink.{average, subsample, mean, halvedSam
 use Rattle.definitions.specs.Threshold.{bins, target, binsAdded, cut, thresholdBit, exclusionBit}
 use Rattle.definitions.specs.Bitmap.{wordsPerRow, bitOf, bitAt}
 use Rattle.definitions.specs.Difference.{Bitmaps, bitmapsOf, bitmapsIn, comparedBit, disagreeingBit, overlap, counts}
-use Rattle.definitions.specs.Align.{Stack, shift, logUpTo, log2, levels, tried, leastFrom, earliestLeast, refine, bitmapsAt, countsAt, stepAt, step, stackOf, exposure, neighbour, walk, stepOf}
+use Rattle.definitions.specs.Align.{Options, Stack, shift, logUpTo, log2, levels, tried, leastFrom, earliestLeast, refine, bitmapsAt, countsAt, stepAt, step, stackOf, exposure, neighbour, walk, stepOf}
 use Rattle.definitions.specs.Report.{Terms, window, isRival, survey, frameCounts, limitOf, rivals, Record, bytes32, twosComplement, recordBytes, fieldOf, signedOf, recordAt, verdict}
 use Rattle.definitions.specs.Refusals.{answer, refused, sideOver, wrongLength, percentileOver, noReference, framesOver, cutChecks, pairDiffers, framesChecks}
 
@@ -34,9 +34,17 @@ tie-to-the-centre : refine (λ (s : Shift). 3) (shift (pos 5) (negsuc 6)) ≡ sh
 unfolding tried leastFrom earliestLeast refine
 tie-to-the-centre = refl
 
--- Two single pixels that disagree: the first candidate beside the centre compares nothing, and wins.
-nothing-compared-wins : refine (λ (s : Shift). counts 1 1 (pixel 1 1) (pixel 0 1) s .disagreeing) origin ≡ shift (negsuc 0) (negsuc 0)
-unfolding sum indexOf source atSources comparedBit disagreeingBit overlap counts tried leastFrom earliestLeast refine
+abbrev usual : Options
+usual = record { bits = 6; tolerance = 4; shrink = average }
+
+-- The step of two empty frames, where Ward's is (-1, -1).
+empty-frames : step usual 0 0 (record { samples = []; percentile = 50 }) (record { samples = []; percentile = 50 }) ≡ origin
+unfolding sum sideAt overlap counts levels tried leastFrom earliestLeast refine countsAt stepAt step
+empty-frames = refl
+
+-- Two samples each, both compared, both disagreeing: the first candidate beside the centre compares nothing, and wins.
+nothing-compared-wins : step (record { bits = 6; tolerance = 0; shrink = average }) 2 1 (record { samples = 0 ∷ 255 ∷ []; percentile = 50 }) (record { samples = 255 ∷ 0 ∷ []; percentile = 50 }) ≡ shift (negsuc 0) (negsuc 0)
+unfolding sum countIf build indexOf source atSources sideAt levelOf bins target binsAdded cut thresholdBit exclusionBit bitmapsOf comparedBit disagreeingBit overlap counts logUpTo log2 levels tried leastFrom earliestLeast refine bitmapsAt countsAt stepAt step
 nothing-compared-wins = refl
 
 -- Of the nine shifts of a single pixel only the centre compares one: the others disagree in none, and a floor of 1 keeps them out.
@@ -46,7 +54,7 @@ below-the-floor = refl
 
 -- Two frames of card D's row.
 abbrev twice : Stack
-twice = stackOf (4 ∷ 4 ∷ []) (1 ∷ 1 ∷ []) (0 ∷ 10 ∷ 20 ∷ 30 ∷ 0 ∷ 10 ∷ 20 ∷ 30 ∷ []) 0 50 (record { bits = 6; tolerance = 4; shrink = average })
+twice = stackOf (4 ∷ 4 ∷ []) (1 ∷ 1 ∷ []) (0 ∷ 10 ∷ 20 ∷ 30 ∷ 0 ∷ 10 ∷ 20 ∷ 30 ∷ []) 0 50 usual
 
 abbrev terms : ℕ → Terms
 terms f = record { reach = 1; floor = f; margin = 0 }
@@ -55,6 +63,11 @@ terms f = record { reach = 1; floor = f; margin = 0 }
 verdict-of-each-kind : (verdict twice (terms 1) 0 ≡ 0) × (verdict twice (terms 4) 1 ≡ 1) × (verdict twice (terms 2) 1 ≡ 2) × (verdict twice (terms 1) 1 ≡ 3)
 unfolding sum countIf build joined keepIf indexOf source atSources sideAt levelOf bins target binsAdded cut thresholdBit exclusionBit bitmapsOf comparedBit disagreeingBit overlap counts logUpTo log2 levels tried leastFrom earliestLeast refine bitmapsAt countsAt stepAt step stackOf exposure neighbour stepOf window isRival survey frameCounts limitOf rivals verdict
 verdict-of-each-kind = (refl, refl, refl, refl)
+
+-- The mean of four samples, and the upper left one.
+two-ways-to-halve : (shrink2 average 2 2 (0 ∷ 0 ∷ 1 ∷ 1 ∷ []) ≡ 1 ∷ []) × (shrink2 subsample 2 2 (0 ∷ 0 ∷ 1 ∷ 1 ∷ []) ≡ 0 ∷ [])
+unfolding build joined mean halvedSample shrink2
+two-ways-to-halve = (refl, refl)
 
 -- An odd column is dropped, and Subsample takes the upper left sample.
 odd-side-dropped : (shrink2 subsample 3 2 (1 ∷ 2 ∷ 3 ∷ 4 ∷ 5 ∷ 6 ∷ []) ≡ 1 ∷ []) × (shrink2 average 3 2 (1 ∷ 2 ∷ 3 ∷ 4 ∷ 5 ∷ 6 ∷ []) ≡ 3 ∷ [])

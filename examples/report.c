@@ -1,0 +1,66 @@
+/* The report of a bracket: report WIDTH HEIGHT REACH < FRAMES. The frames stand one after another on standard input, a byte a sample.
+   Prints a line for the bracket, one for each frame and one for each of its rivals, as the program stacksteps does. */
+#include <stdio.h>
+#include <stdlib.h>
+#include "mtb.h"
+
+static int32_t field(const uint8_t *record, int i) {
+    const uint8_t *b = record + 4 * i;
+    return (int32_t)((uint32_t)b[0] | (uint32_t)b[1] << 8 | (uint32_t)b[2] << 16 | (uint32_t)b[3] << 24);
+}
+
+static void *room(size_t bytes) {
+    void *p = malloc(bytes > 0 ? bytes : 1); /* never null, not for an empty list either */
+    if (p == NULL) exit(1);
+    return p;
+}
+
+static void refused(uint32_t status) {
+    printf("refused %u\n", (unsigned)status);
+    exit(1);
+}
+
+int main(int argc, char **argv) {
+    static const char *const verdict_names[] = {"reference", "weak", "alone", "contested"};
+    if (argc != 4) return fprintf(stderr, "usage: report WIDTH HEIGHT REACH < FRAMES\n"), 2;
+    size_t width = strtoul(argv[1], NULL, 10), height = strtoul(argv[2], NULL, 10);
+    uint32_t reach = (uint32_t)strtoul(argv[3], NULL, 10);
+
+    size_t bytes_needed, words_needed, values[5];
+    uint32_t status = mtb_scratch(width, height, MTB_BITS, &bytes_needed, &words_needed);
+    if (status != MTB_ACCEPTED) refused(status);
+    uint8_t *bytes = (uint8_t *)room(bytes_needed);
+    uint64_t *words = (uint64_t *)room(8 * words_needed);
+
+    uint8_t *samples = (uint8_t *)room(MTB_MOST_FRAMES * width * height);
+    size_t length = fread(samples, 1, MTB_MOST_FRAMES * width * height, stdin);
+    size_t frames = width * height > 0 ? length / (width * height) : 0;
+    if (frames * width * height != length || getchar() != EOF) return fprintf(stderr, "bad input\n"), 1;
+
+    size_t widths[MTB_MOST_FRAMES], heights[MTB_MOST_FRAMES];
+    for (size_t k = 0; k < frames; k++) widths[k] = width, heights[k] = height;
+    int32_t shifts[2 * MTB_MOST_FRAMES];
+    uint8_t verdicts[MTB_MOST_FRAMES];
+    size_t space = MTB_RECORD_SPACE(frames, reach <= MTB_MOST_REACH ? reach : 0);
+    uint8_t *records = (uint8_t *)room(space);
+    size_t left, top, wide, high, count;
+    status = mtb_report(widths, frames, heights, frames, samples, length, 0,
+                        MTB_BITS, MTB_TOLERANCE, MTB_PERCENTILE, MTB_AVERAGE, reach, 1, 0,
+                        shifts, 2 * frames, verdicts, frames, records, space,
+                        bytes, bytes_needed, words, words_needed,
+                        &left, &top, &wide, &high, &count, values);
+    if (status != MTB_ACCEPTED) refused(status);
+
+    printf("frames %zu crop %zu %zu %zu %zu\n", frames, left, top, wide, high);
+    for (size_t k = 0, i = 0; k < frames; k++) {
+        size_t end = i; /* records stand by frame */
+        while (end < count && field(records + MTB_RECORD * end, 0) == (int32_t)k) end++;
+        printf("%zu %d %d %s %zu\n", k, shifts[2 * k], shifts[2 * k + 1], verdict_names[verdicts[k]], end - i);
+        for (; i < end; i++) {
+            const uint8_t *r = records + MTB_RECORD * i;
+            printf("%d %d %d %d %d\n", field(r, 0), field(r, 1), field(r, 2), field(r, 3), field(r, 4));
+        }
+    }
+    free(records), free(samples), free(words), free(bytes);
+    return 0;
+}
