@@ -7,7 +7,7 @@ use naive::align::Step;
 use naive::difference::Counts;
 use naive::geometry::{Crop, Shift};
 use naive::gray::Frame;
-use naive::report::Report;
+use naive::report::{Record, Report};
 use naive::threshold::Packed;
 
 #[derive(Default)]
@@ -127,9 +127,10 @@ impl Output for Step {
 
 impl Output for Report {
     fn write(&self, line: Line) -> Line {
-        let bytes: Vec<u8> = self.records.iter().flat_map(|r| r.bytes()).collect();
+        let bits = |r: &Record| [r.frame, r.x as u32, r.y as u32, r.disagreeing, r.compared];
+        let fields: Vec<u32> = self.records.iter().flat_map(bits).collect();
         let line = line.list(&self.shifts).list(&self.verdicts);
         let line = self.crop.write(line);
-        line.number(self.records.len()).list(&bytes)
+        line.number(self.records.len()).list(&fields)
     }
 }

@@ -49,6 +49,16 @@ const MANY_BITS: Options = Options {
     ..OPTIONS
 };
 
+/// The highest percentile, and the numbers of bits that leave no halved level.
+const EDGES: [Options; 3] = [
+    Options {
+        percentile: 100,
+        ..OPTIONS
+    },
+    Options { bits: 0, ..OPTIONS },
+    Options { bits: 1, ..OPTIONS },
+];
+
 /// Now and then longer than needed.
 fn ample(random: &mut Random, needed: Scratch) -> Scratch {
     Scratch {
@@ -143,7 +153,13 @@ pub fn shift(random: &mut Random) -> Vec<String> {
     let mut sound = Two::any(random, SOUND, OPTIONS);
     sound.scratch = sound.needed();
     cases.push(Two::any(random, (17, 33), MANY_BITS));
-    [accepted(cases), refused(&sound, &STEP_BREAKS)].concat()
+    let edges = EDGES.map(|options| Two::any(random, (9, 6), options));
+    [
+        accepted(cases),
+        refused(&sound, &STEP_BREAKS),
+        accepted(edges),
+    ]
+    .concat()
 }
 
 /// A stack and how it is asked; with a rivalry for a report, else for its shifts.
@@ -252,7 +268,7 @@ impl Case for Asked {
 }
 
 /// The checks of a stack up to the shift list.
-const STACK_BREAKS: [Break<Asked>; 17] = [
+const STACK_BREAKS: [Break<Asked>; 18] = [
     (6, |asked| {
         asked.frames.widths.resize(17, SOUND.0);
         asked.frames.heights.resize(17, SOUND.1);
@@ -262,6 +278,7 @@ const STACK_BREAKS: [Break<Asked>; 17] = [
     (2, |asked| asked.frames.heights.push(SOUND.1)),
     (2, |asked| asked.frames.widths.extend([SOUND.0; 2])),
     (1, |asked| asked.frames.widths[0] = 8193),
+    (1, |asked| asked.frames.heights[1] = 8193),
     (1, |asked| asked.frames.heights[2] = 1 << 32),
     (3, |asked| asked.options.percentile = 101),
     (5, |asked| asked.frames.reference = 3),
@@ -406,8 +423,42 @@ pub fn report(random: &mut Random) -> Vec<String> {
         accepted(references(random)),
         seventeen(random),
         accepted(pins(random)),
+        accepted(EDGES.map(|options| Asked::any(random, (8, 7), 3, options, Some(RIVALRY)))),
+        many_records(random),
     ]
     .concat()
+}
+
+/// The most records whose bytes 16 bits count, one more, and a byte too few for those.
+fn many_records(random: &mut Random) -> Vec<String> {
+    let [most, over] = [3276, 3277].map(|records| noise_of(random, records));
+    let short: [Break<Asked>; 1] = [(10, |asked| asked.room.records -= 1)];
+    [accepted([most, over.clone()]), refused(&over, &short)].concat()
+}
+
+/// Noise with just so many records: where two frames share no pixel they disagree in
+/// none, and a margin keeps some of the other shifts out.
+fn noise_of(random: &mut Random, records: usize) -> Asked {
+    loop {
+        let noise = vec![random.bytes(225), random.bytes(225)];
+        let frames = Frames::of_one_size(noise, (15, 15), 0);
+        let mut asked = Asked::of(random, frames, OPTIONS, Some(reaching(29, ALL_NEARBY)));
+        let report = asked.report();
+        let is_step = |record: &&Record| [record.x, record.y] == report.shifts[2..];
+        let step = report.records.iter().find(is_step).expect("the step");
+        let mut counts: Vec<u32> = report.records.iter().map(|r| r.disagreeing).collect();
+        counts.sort();
+        let last = counts[records - 1];
+        if last >= step.disagreeing && last < counts[records] {
+            asked.rivalry = Some(Rivalry {
+                reach: 29,
+                floor: 0,
+                margin: last - step.disagreeing,
+            });
+            assert_eq!(asked.report().records.len(), records);
+            return asked.with_space(0);
+        }
+    }
 }
 
 /// Floors and margins at both ends, on frames that disagree; more bits than are of

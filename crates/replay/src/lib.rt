@@ -1,277 +1,166 @@
-// What the test programs share: cases read from lines of decimal numbers, and buffers held against them. Nothing here is trusted by
-// a proof: the functions are proved safe and ending, and what they find is compared with a stored output.
-pub mod stacks;
+// What the test programs share: cases read from lines of decimal numbers, and buffers held against them.
+pub mod answers;
 
-ghost use Prim.Native.Nat.{_≤_, _<_};
+ghost use mathlib.Core.Path.{_≡_};
+ghost use mathlib.Core.Bool.{_||_};
+ghost use mathlib.Core.List.{map};
+ghost use Prim.Native.Nat.{_+_, _≤_, _<_};
+ghost use lib.Dec.{eqb};
+ghost use lib.IntN.{negsuc};
+ghost use lib.ListN.{length, getD, take, drop, set};
+ghost use lib.Seq.{sets};
+ghost use Rattle.replay.specs.Lines as lines;
+ghost use Rattle.replay.specs.Lists.{Whether, Marked, Fields, byteOf, coordinateOf, fieldAt};
 
-// One number of a line, and where the next begins. A negative number has 2^63 added to its magnitude.
-pub struct Number {
-    pub value: u64,
-    pub next: usize,
-}
-
-// The numbers of a line, and where the next line begins.
+// How many numbers a line has, and where the next line begins.
 pub struct Line {
     pub count: usize,
     pub next: usize,
 }
 
-// What untouched bytes and words hold.
+// What untouched bytes, words and coordinates hold.
 pub const MARK: u8 = 165;
 
 pub const MARK_WORD: u64 = 11936128518282651045;
 
 pub const MARK_COORDINATE: i32 = -1515870811;
 
-fn with_digit(value: u64, digit: u64) -> u64 {
-    if value < 1844674407370955161 {
-        if digit < 10 {
-            return value * 10 + digit;
-        }
+// ---- lines
+
+fn wide(x: u8) -> u64
+    ensures { λ r. ⌜ (r ≡ x) × (r < 256) ⌝ }
+{
+    x as u64
+}
+
+// One digit more, or 0 where that passes 64 bits.
+fn with_digit(value: u64, digit: u64) -> u64
+    requires { ⌜ digit < 10 ⌝ }
+    ensures { λ r. ⌜ r ≡ lines.withDigit value digit ⌝ }
+{
+    if value > 1844674407370955161 {
         return 0;
     }
-    if value == 1844674407370955161 {
-        if digit < 6 {
-            return 18446744073709551610 + digit;
-        }
+    let tens = value * 10;
+    if digit > 18446744073709551615 - tens {
+        return 0;
     }
-    0
+    tens + digit
 }
 
-fn digit_of(byte: u8) -> u64 {
-    if byte < b'0' {
-        return 10;
-    }
-    (byte - b'0') as u64
-}
-
-// The number at `at`, up to the first byte that is no digit.
-fn read_number(text: &[u8], at: usize) -> Number {
-    let mut value: u64 = 0;
-    let mut next = at;
-    while next < text.len() {
-        let digit = digit_of(text[next]);
-        if digit > 9 {
-            return Number { value, next };
-        }
-        value = with_digit(value, digit);
-        next += 1;
-    }
-    Number { value, next }
-}
-
-fn is_minus(text: &[u8], at: usize) -> bool {
-    if at < text.len() {
-        return text[at] == b'-';
-    }
-    false
-}
-
-fn signed_number(text: &[u8], at: usize) -> Number {
-    if is_minus(text, at) {
-        if at < text.len() {
-            let found = read_number(text, at + 1);
-            let value = found.value;
-            return Number {
-                value: value % 9223372036854775808 + 9223372036854775808,
-                next: found.next,
-            };
-        }
-    }
-    read_number(text, at)
-}
-
-// A place past `at` and not past the end: `found`, where it is one.
-fn farther(found: usize, at: usize, end: usize) -> usize
-    requires { ⌜ at < end ⌝ }
-    ensures { λ r. ⌜ (at < r) × (r ≤ end) ⌝ }
+// A number as a character carries it on.
+fn grown(value: u64, byte: u8) -> u64
+    ensures { λ r. ⌜ r ≡ lines.grown value byte ⌝ }
 {
-    if found > end {
-        return end;
+    if byte < b'0' {
+        return value;
     }
-    if found > at {
-        return found;
+    if byte > b'9' {
+        return value;
     }
-    at + 1
+    with_digit(value, wide(byte - b'0'))
 }
 
-fn store(numbers: &mut [u64], at: usize, value: u64) {
+fn minus_found(negative: bool, byte: u8) -> bool
+    ensures { λ r. ⌜ r ≡ negative || eqb byte 45 ⌝ }
+{
+    if negative {
+        return true;
+    }
+    byte == b'-'
+}
+
+// A number of either sign as 64 bits.
+fn number(negative: bool, value: u64) -> u64
+    ensures { λ r. ⌜ r ≡ lines.number negative value ⌝ }
+{
+    if negative {
+        return value % 9223372036854775808 + 9223372036854775808;
+    }
+    value
+}
+
+// Past the end nothing is stored.
+fn store(numbers: &mut [u64], at: usize, value: u64)
+    ensures { λ _. ⌜ now (numbers .exit) ≡ set (now (numbers .entry)) at value ⌝ }
+{
     if at < numbers.len() {
         numbers[at] = value;
     }
 }
 
-// The numbers of the line at `at`, as many as there is room for.
-pub fn read_line(text: &[u8], at: usize, numbers: &mut [u64]) -> Line {
+// The numbers of the line at `at`, stored as far as there is room.
+pub fn read_line(text: &[u8], at: usize, numbers: &mut [u64]) -> Line
+    ensures { λ r. ⌜ now (numbers .exit) ≡ sets (now (numbers .entry)) 0 (lines.numbersOf (drop at (now (text .entry)))) ⌝ }
+    ensures { λ r. ⌜ r .count ≡ length (lines.numbersOf (drop at (now (text .entry)))) ⌝ }
+    ensures { λ r. ⌜ r .next ≡ at + lines.lineLength (drop at (now (text .entry))) ⌝ }
+{
     let mut count: usize = 0;
+    let mut negative = false;
+    let mut value: u64 = 0;
     let mut next = at;
     while next < text.len() {
         let byte = text[next];
+        next += 1;
         if byte == b'\n' {
+            store(numbers, count, number(negative, value));
             return Line {
-                count,
-                next: next + 1,
+                count: count + 1,
+                next,
             };
         }
-        let mut end = next + 1;
-        if byte != b' ' {
-            let found = signed_number(text, next);
-            store(numbers, count, found.value);
+        if byte == b' ' {
+            store(numbers, count, number(negative, value));
             count += 1;
-            end = farther(found.next, next, text.len());
+            negative = false;
+            value = 0;
+        } else {
+            negative = minus_found(negative, byte);
+            value = grown(value, byte);
         }
-        next = end;
     }
     Line { count, next }
 }
 
+// ---- the numbers of a line
+
 // Number i of a line, and 0 past its end.
-pub fn at(numbers: &[u64], i: usize) -> usize {
+pub fn at(numbers: &[u64], i: usize) -> usize
+    ensures { λ r. ⌜ r ≡ getD (now (numbers .entry)) i 0 ⌝ }
+{
     if i < numbers.len() {
         return numbers[i] as usize;
     }
     0
 }
 
-// The bytes that stand from number `from` on.
-pub fn bytes(numbers: &[u64], from: usize, out: &mut [u8]) {
-    let mut i: usize = 0;
-    let mut k = from;
-    while i < out.len() {
-        if k >= numbers.len() {
-            return;
-        }
-        out[i] = (numbers[k] % 256) as u8;
-        i += 1;
-        k += 1;
+// The numbers from `from` on.
+pub fn rest<'a>(numbers: &'a [u64], from: usize) -> &'a [u64]
+    ensures { λ r. ⌜ now r ≡ drop from (now (numbers .entry)) ⌝ }
+{
+    if from > numbers.len() {
+        return &numbers[0..0];
     }
+    &numbers[from..]
 }
 
-// The words that stand from number `from` on.
-pub fn words(numbers: &[u64], from: usize, out: &mut [u64]) {
-    let mut i: usize = 0;
-    let mut k = from;
-    while i < out.len() {
-        if k >= numbers.len() {
-            return;
-        }
-        out[i] = numbers[k];
-        i += 1;
-        k += 1;
+// The n numbers from `from` on, or those that there are.
+pub fn part<'a>(numbers: &'a [u64], from: usize, n: usize) -> &'a [u64]
+    ensures { λ r. ⌜ now r ≡ take n (drop from (now (numbers .entry))) ⌝ }
+{
+    if from > numbers.len() {
+        return &numbers[0..0];
     }
+    if n > numbers.len() - from {
+        return &numbers[from..];
+    }
+    let end = from + n;
+    &numbers[from..end]
 }
 
-fn wide(x: u8) -> u64 {
-    x as u64
-}
-
-// The bytes are the numbers from `from` on.
-pub fn same_bytes(numbers: &[u64], from: usize, got: &[u8]) -> bool {
-    let mut i: usize = 0;
-    let mut k = from;
-    while i < got.len() {
-        if k >= numbers.len() {
-            return false;
-        }
-        if numbers[k] != wide(got[i]) {
-            return false;
-        }
-        i += 1;
-        k += 1;
-    }
-    true
-}
-
-// The words are the numbers from `from` on.
-pub fn same_words(numbers: &[u64], from: usize, got: &[u64]) -> bool {
-    let mut i: usize = 0;
-    let mut k = from;
-    while i < got.len() {
-        if k >= numbers.len() {
-            return false;
-        }
-        if numbers[k] != got[i] {
-            return false;
-        }
-        i += 1;
-        k += 1;
-    }
-    true
-}
-
-// Every byte still has the mark.
-pub fn marked_bytes(got: &[u8]) -> bool {
-    let mut i: usize = 0;
-    while i < got.len() {
-        if got[i] != MARK {
-            return false;
-        }
-        i += 1;
-    }
-    true
-}
-
-// Every word still has the mark.
-pub fn marked_words(got: &[u64]) -> bool {
-    let mut i: usize = 0;
-    while i < got.len() {
-        if got[i] != MARK_WORD {
-            return false;
-        }
-        i += 1;
-    }
-    true
-}
-
-// The answer at `from` is the status and, where it is 0, a list that the first n bytes are; all others are marked.
-pub fn bytes_agree(numbers: &[u64], from: usize, status: u32, got: &[u8], n: usize) -> bool {
-    if at(numbers, from) != status as usize {
-        return false;
-    }
-    if status != 0 {
-        return marked_bytes(got);
-    }
-    if n > got.len() {
-        return false;
-    }
-    if from > 1048576 {
-        return false;
-    }
-    if at(numbers, from + 1) != n {
-        return false;
-    }
-    if !same_bytes(numbers, from + 2, &got[0..n]) {
-        return false;
-    }
-    marked_bytes(&got[n..])
-}
-
-// Where the status is 0, the list at `from` is the first n words; all others are marked.
-pub fn words_agree(numbers: &[u64], from: usize, status: u32, got: &[u64], n: usize) -> bool {
-    if status != 0 {
-        return marked_words(got);
-    }
-    if n > got.len() {
-        return false;
-    }
-    if from > 1048576 {
-        return false;
-    }
-    if at(numbers, from) != n {
-        return false;
-    }
-    if !same_words(numbers, from + 1, &got[0..n]) {
-        return false;
-    }
-    marked_words(&got[n..])
-}
-
-// Number i of a line as a coordinate, and 0 where it is none.
-pub fn coordinate(numbers: &[u64], i: usize) -> i32 {
-    if i >= numbers.len() {
-        return 0;
-    }
-    let value = numbers[i];
+fn coordinate_of(value: u64) -> i32
+    ensures { λ r. ⌜ r ≡ coordinateOf value ⌝ }
+{
     if value < 2147483648 {
         return value as i32;
     }
@@ -288,39 +177,182 @@ pub fn coordinate(numbers: &[u64], i: usize) -> i32 {
     0
 }
 
-// The sizes that stand from number `from` on.
-pub fn sizes(numbers: &[u64], from: usize, out: &mut [usize]) {
+// Number i of a line as a coordinate.
+pub fn coordinate(numbers: &[u64], i: usize) -> i32
+    ensures { λ r. ⌜ r ≡ coordinateOf (getD (now (numbers .entry)) i 0) ⌝ }
+{
+    if i < numbers.len() {
+        return coordinate_of(numbers[i]);
+    }
+    0
+}
+
+// ---- numbers as a list of a call; each is stored as far as both reach
+
+pub fn bytes(numbers: &[u64], out: &mut [u8])
+    ensures { λ _. ⌜ now (out .exit) ≡ sets (now (out .entry)) 0 (map byteOf (now (numbers .entry))) ⌝ }
+{
     let mut i: usize = 0;
-    let mut k = from;
     while i < out.len() {
-        if k >= numbers.len() {
+        if i >= numbers.len() {
             return;
         }
-        out[i] = numbers[k] as usize;
+        out[i] = (numbers[i] % 256) as u8;
         i += 1;
-        k += 1;
     }
 }
 
-// The coordinates are the numbers from `from` on.
-pub fn same_coordinates(numbers: &[u64], from: usize, got: &[i32]) -> bool {
+pub fn words(numbers: &[u64], out: &mut [u64])
+    ensures { λ _. ⌜ now (out .exit) ≡ sets (now (out .entry)) 0 (now (numbers .entry)) ⌝ }
+{
     let mut i: usize = 0;
-    let mut k = from;
-    while i < got.len() {
-        if k >= numbers.len() {
-            return false;
+    while i < out.len() {
+        if i >= numbers.len() {
+            return;
         }
-        if coordinate(numbers, k) != got[i] {
+        out[i] = numbers[i];
+        i += 1;
+    }
+}
+
+pub fn sizes(numbers: &[u64], out: &mut [usize])
+    ensures { λ _. ⌜ now (out .exit) ≡ sets (now (out .entry)) 0 (now (numbers .entry)) ⌝ }
+{
+    let mut i: usize = 0;
+    while i < out.len() {
+        if i >= numbers.len() {
+            return;
+        }
+        out[i] = numbers[i] as usize;
+        i += 1;
+    }
+}
+
+pub fn coordinates(numbers: &[u64], out: &mut [i32])
+    ensures { λ _. ⌜ now (out .exit) ≡ sets (now (out .entry)) 0 (map coordinateOf (now (numbers .entry))) ⌝ }
+{
+    let mut i: usize = 0;
+    while i < out.len() {
+        if i >= numbers.len() {
+            return;
+        }
+        out[i] = coordinate_of(numbers[i]);
+        i += 1;
+    }
+}
+
+// ---- numbers held against a list of a call
+
+pub fn same_bytes(numbers: &[u64], got: &[u8]) -> bool
+    ensures { λ r. ⌜ Whether r (now (numbers .entry) ≡ now (got .entry)) ⌝ }
+{
+    if numbers.len() != got.len() {
+        return false;
+    }
+    let mut i: usize = 0;
+    while i < got.len() {
+        if numbers[i] != wide(got[i]) {
             return false;
         }
         i += 1;
-        k += 1;
     }
     true
 }
 
-// Every coordinate still has the mark.
-pub fn marked_coordinates(got: &[i32]) -> bool {
+pub fn same_words(numbers: &[u64], got: &[u64]) -> bool
+    ensures { λ r. ⌜ Whether r (now (numbers .entry) ≡ now (got .entry)) ⌝ }
+{
+    if numbers.len() != got.len() {
+        return false;
+    }
+    let mut i: usize = 0;
+    while i < got.len() {
+        if numbers[i] != got[i] {
+            return false;
+        }
+        i += 1;
+    }
+    true
+}
+
+pub fn same_coordinates(numbers: &[u64], got: &[i32]) -> bool
+    ensures { λ r. ⌜ Whether r (map coordinateOf (now (numbers .entry)) ≡ now (got .entry)) ⌝ }
+{
+    if numbers.len() != got.len() {
+        return false;
+    }
+    let mut i: usize = 0;
+    while i < got.len() {
+        if coordinate_of(numbers[i]) != got[i] {
+            return false;
+        }
+        i += 1;
+    }
+    true
+}
+
+// 32 bits, low byte first.
+fn field_at(bytes: &[u8], at: usize) -> u64
+    requires { ⌜ at + 4 ≤ length (now bytes) ⌝ }
+    ensures { λ r. ⌜ r ≡ fieldAt (now (bytes .entry)) at ⌝ }
+{
+    wide(bytes[at])
+        + 256 * wide(bytes[at + 1])
+        + 65536 * wide(bytes[at + 2])
+        + 16777216 * wide(bytes[at + 3])
+}
+
+// The numbers are the fields of 32 bits that the bytes hold.
+pub fn same_fields(numbers: &[u64], got: &[u8]) -> bool
+    ensures { λ r. ⌜ Whether r (Fields (now (numbers .entry)) (now (got .entry))) ⌝ }
+{
+    if got.len() % 4 != 0 {
+        return false;
+    }
+    if got.len() / 4 != numbers.len() {
+        return false;
+    }
+    let mut i: usize = 0;
+    while i < numbers.len() {
+        if numbers[i] != field_at(got, 4 * i) {
+            return false;
+        }
+        i += 1;
+    }
+    true
+}
+
+// ---- marks
+
+pub fn marked_bytes(got: &[u8]) -> bool
+    ensures { λ r. ⌜ Whether r (Marked 165 (now (got .entry))) ⌝ }
+{
+    let mut i: usize = 0;
+    while i < got.len() {
+        if got[i] != MARK {
+            return false;
+        }
+        i += 1;
+    }
+    true
+}
+
+pub fn marked_words(got: &[u64]) -> bool
+    ensures { λ r. ⌜ Whether r (Marked 11936128518282651045 (now (got .entry))) ⌝ }
+{
+    let mut i: usize = 0;
+    while i < got.len() {
+        if got[i] != MARK_WORD {
+            return false;
+        }
+        i += 1;
+    }
+    true
+}
+
+pub fn marked_coordinates(got: &[i32]) -> bool
+    ensures { λ r. ⌜ Whether r (Marked (negsuc 1515870810) (now (got .entry))) ⌝ }
+{
     let mut i: usize = 0;
     while i < got.len() {
         if got[i] != MARK_COORDINATE {
@@ -331,19 +363,7 @@ pub fn marked_coordinates(got: &[i32]) -> bool {
     true
 }
 
-// The coordinates that stand from number `from` on.
-pub fn coordinates(numbers: &[u64], from: usize, out: &mut [i32]) {
-    let mut i: usize = 0;
-    let mut k = from;
-    while i < out.len() {
-        if k >= numbers.len() {
-            return;
-        }
-        out[i] = coordinate(numbers, k);
-        i += 1;
-        k += 1;
-    }
-}
+// ---- what a run found
 
 fn say(call: u64, case: u64) {
     io::write_all(1, b"call ");

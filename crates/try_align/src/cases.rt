@@ -4,27 +4,24 @@ use mtb_align::error::Outcome;
 use replay::MARK;
 use replay::MARK_COORDINATE;
 use replay::MARK_WORD;
+use replay::answers::bits;
+use replay::answers::bytes_agree;
+use replay::answers::bytes_listed;
+use replay::answers::mode;
+use replay::answers::options;
+use replay::answers::past_marked;
+use replay::answers::refusal_agrees;
 use replay::at;
 use replay::bytes;
-use replay::bytes_agree;
-use replay::coordinate;
+use replay::marked_bytes;
 use replay::marked_coordinates;
-use replay::same_bytes;
+use replay::part;
+use replay::rest;
 use replay::same_coordinates;
+use replay::same_words;
 use replay::sizes;
-use replay::stacks::bits;
-use replay::stacks::mode;
-use replay::stacks::options_at;
-use replay::stacks::refusal_agrees;
-use replay::stacks::rest_marked;
 
-fn status(o: Outcome) -> u32 {
-    match o {
-        Outcome::Done => 0,
-        Outcome::Refused(e) => e.number(),
-    }
-}
-
+// The scratch begins with what the line lists, and is as before where the call is refused.
 fn pyramid_in(numbers: &[u64], samples: &[u8], scratch: &mut [u8]) -> bool {
     let len = samples.len();
     if len > 8448 {
@@ -43,7 +40,10 @@ fn pyramid_in(numbers: &[u64], samples: &[u8], scratch: &mut [u8]) -> bool {
         &mut scratch[0..room],
     );
     let n = at(numbers, 8 + len);
-    bytes_agree(numbers, 7 + len, status(answer), scratch, n)
+    if n > scratch.len() {
+        return false;
+    }
+    bytes_agree(rest(numbers, 7 + len), answer, &scratch[0..n]) && marked_bytes(&scratch[n..])
 }
 
 pub(crate) fn pyramid(numbers: &[u64]) -> bool {
@@ -52,7 +52,7 @@ pub(crate) fn pyramid(numbers: &[u64]) -> bool {
         return false;
     }
     let mut samples = [0u8; 8448];
-    bytes(numbers, 2, &mut samples);
+    bytes(part(numbers, 2, len), &mut samples);
     let mut scratch = [MARK; 8448];
     pyramid_in(numbers, &samples[0..len], &mut scratch)
 }
@@ -66,7 +66,7 @@ fn level_in<'a>(numbers: &[u64], frame: &'a [u8], scratch: &'a [u8]) -> bool {
     if more > 8448 {
         return false;
     }
-    let part = mtb_align::align::level(
+    let found = mtb_align::align::level(
         frame,
         at(numbers, 2 + len),
         at(numbers, 3 + len),
@@ -74,7 +74,7 @@ fn level_in<'a>(numbers: &[u64], frame: &'a [u8], scratch: &'a [u8]) -> bool {
         scratch,
         at(numbers, 6 + len + more),
     );
-    at(numbers, 8 + len + more) == part.len() && same_bytes(numbers, 9 + len + more, part)
+    bytes_listed(rest(numbers, 7 + len + more), found)
 }
 
 pub(crate) fn level(numbers: &[u64]) -> bool {
@@ -88,22 +88,22 @@ pub(crate) fn level(numbers: &[u64]) -> bool {
     }
     let mut frame = [0u8; 8448];
     let mut scratch = [0u8; 8448];
-    bytes(numbers, 2, &mut frame);
-    bytes(numbers, 6 + len, &mut scratch);
+    bytes(part(numbers, 2, len), &mut frame);
+    bytes(part(numbers, 6 + len, more), &mut scratch);
     level_in(numbers, &frame[0..len], &scratch[0..more])
 }
 
-// The answer at `from`: a step with its comparisons, or a refusal.
-fn step_agrees(numbers: &[u64], from: usize, answer: StepAnswer) -> bool {
-    if from > 65536 {
-        return false;
-    }
+fn step_agrees(numbers: &[u64], answer: StepAnswer) -> bool {
     match answer {
-        StepAnswer::Stepped(s) => at(numbers, from) == 0
-            && coordinate(numbers, from + 1) == s.shift.x
-            && coordinate(numbers, from + 2) == s.shift.y
-            && at(numbers, from + 3) == s.comparisons as usize,
-        StepAnswer::Refused(e) => refusal_agrees(numbers, from, e),
+        StepAnswer::Stepped(s) => {
+            let status = [0];
+            let shift = [s.shift.x, s.shift.y];
+            let comparisons = [s.comparisons];
+            same_words(part(numbers, 0, 1), &status)
+                && same_coordinates(part(numbers, 1, 2), &shift)
+                && same_words(rest(numbers, 3), &comparisons)
+        }
+        StepAnswer::Refused(e) => refusal_agrees(numbers, e),
     }
 }
 
@@ -131,11 +131,12 @@ fn stepped(
         target,
         at(numbers, 5 + end),
         at(numbers, 6 + end),
-        options_at(numbers, 7 + end),
+        options(rest(numbers, 7 + end)),
         room,
         words,
     );
-    step_agrees(numbers, 15 + end, answer) && rest_marked(numbers, 13 + end, room, words)
+    step_agrees(rest(numbers, 15 + end), answer)
+        && past_marked(part(numbers, 13 + end, 2), room, words)
 }
 
 pub(crate) fn shift(numbers: &[u64]) -> bool {
@@ -157,8 +158,8 @@ pub(crate) fn shift(numbers: &[u64]) -> bool {
     }
     let mut reference = [0u8; 8448];
     let mut target = [0u8; 8448];
-    bytes(numbers, 2, &mut reference);
-    bytes(numbers, 5 + m, &mut target);
+    bytes(part(numbers, 2, m), &mut reference);
+    bytes(part(numbers, 5 + m, n), &mut target);
     let mut room = [MARK; 2048];
     let mut words = [MARK_WORD; 1024];
     stepped(
@@ -170,25 +171,20 @@ pub(crate) fn shift(numbers: &[u64]) -> bool {
     )
 }
 
-// The answer at `from`: the shifts, or a refusal, after which the shift list still has the mark.
-fn stack_agrees(numbers: &[u64], from: usize, answer: Outcome, shifts: &[i32]) -> bool {
-    if from > 65536 {
-        return false;
-    }
+// The answer is the shifts, or a refusal, after which the shift list still has the mark.
+fn stack_agrees(numbers: &[u64], answer: Outcome, shifts: &[i32]) -> bool {
     match answer {
         Outcome::Done => {
-            at(numbers, from) == 0
-                && at(numbers, from + 1) == shifts.len()
-                && same_coordinates(numbers, from + 2, shifts)
+            let head = [0, shifts.len() as u64];
+            same_words(part(numbers, 0, 2), &head) && same_coordinates(rest(numbers, 2), shifts)
         }
-        Outcome::Refused(e) => refusal_agrees(numbers, from, e) && marked_coordinates(shifts),
+        Outcome::Refused(e) => refusal_agrees(numbers, e) && marked_coordinates(shifts),
     }
 }
 
-// The number at `from` is the reference.
+// The numbers begin with the reference.
 fn stacked(
     numbers: &[u64],
-    from: usize,
     widths: &[usize],
     heights: &[usize],
     samples: &[u8],
@@ -196,20 +192,45 @@ fn stacked(
     room: &mut [u8],
     words: &mut [u64],
 ) -> bool {
-    if from > 32768 {
-        return false;
-    }
     let answer = mtb_align::align::align_stack(
         widths,
         heights,
         samples,
-        at(numbers, from),
-        options_at(numbers, from + 1),
+        at(numbers, 0),
+        options(rest(numbers, 1)),
         shifts,
         room,
         words,
     );
-    stack_agrees(numbers, from + 10, answer, shifts) && rest_marked(numbers, from + 8, room, words)
+    stack_agrees(rest(numbers, 10), answer, shifts) && past_marked(part(numbers, 8, 2), room, words)
+}
+
+// Lends the buffers, whose lengths stand from number 5 on.
+fn lent(numbers: &[u64], widths: &[usize], heights: &[usize], samples: &[u8]) -> bool {
+    let count = at(numbers, 5);
+    if count > 64 {
+        return false;
+    }
+    let more = at(numbers, 6);
+    if more > 2048 {
+        return false;
+    }
+    let most = at(numbers, 7);
+    if most > 1024 {
+        return false;
+    }
+    let mut shifts = [MARK_COORDINATE; 64];
+    let mut room = [MARK; 2048];
+    let mut words = [MARK_WORD; 1024];
+    stacked(
+        numbers,
+        widths,
+        heights,
+        samples,
+        &mut shifts[0..count],
+        &mut room[0..more],
+        &mut words[0..most],
+    )
 }
 
 pub(crate) fn align_stack(numbers: &[u64]) -> bool {
@@ -225,36 +246,16 @@ pub(crate) fn align_stack(numbers: &[u64]) -> bool {
     if k > 32 {
         return false;
     }
-    let from = 4 + m + n + k;
-    let count = at(numbers, from + 5);
-    if count > 64 {
-        return false;
-    }
-    let more = at(numbers, from + 6);
-    if more > 2048 {
-        return false;
-    }
-    let most = at(numbers, from + 7);
-    if most > 1024 {
-        return false;
-    }
     let mut samples = [0u8; 16640];
     let mut widths = [0usize; 32];
     let mut heights = [0usize; 32];
-    bytes(numbers, 2, &mut samples);
-    sizes(numbers, 3 + m, &mut widths);
-    sizes(numbers, 4 + m + n, &mut heights);
-    let mut shifts = [MARK_COORDINATE; 64];
-    let mut room = [MARK; 2048];
-    let mut words = [MARK_WORD; 1024];
-    stacked(
-        numbers,
-        from,
+    bytes(part(numbers, 2, m), &mut samples);
+    sizes(part(numbers, 3 + m, n), &mut widths);
+    sizes(part(numbers, 4 + m + n, k), &mut heights);
+    lent(
+        rest(numbers, 4 + m + n + k),
         &widths[0..n],
         &heights[0..k],
         &samples[0..m],
-        &mut shifts[0..count],
-        &mut room[0..more],
-        &mut words[0..most],
     )
 }

@@ -1,18 +1,32 @@
 // Bitmaps: get, set, count_ones, row.
-use super::images::status;
 use mtb_align::bitmap::PixelAnswer;
 use mtb_align::bitmap::TotalAnswer;
+use mtb_align::error::Outcome;
 use replay::MARK_WORD;
+use replay::answers::refusal_agrees;
+use replay::answers::words_listed;
 use replay::at;
+use replay::marked_words;
+use replay::part;
+use replay::rest;
 use replay::same_words;
 use replay::words;
-use replay::words_agree;
 
-fn bit(b: bool) -> usize {
+fn bit(b: bool) -> u64 {
     if b {
         return 1;
     }
     0
+}
+
+fn pixel_agrees(numbers: &[u64], answer: PixelAnswer) -> bool {
+    match answer {
+        PixelAnswer::Pixel(b) => {
+            let list = [0, bit(b)];
+            same_words(numbers, &list)
+        }
+        PixelAnswer::Refused(e) => refusal_agrees(numbers, e),
+    }
 }
 
 pub(crate) fn get(numbers: &[u64]) -> bool {
@@ -21,7 +35,7 @@ pub(crate) fn get(numbers: &[u64]) -> bool {
         return false;
     }
     let mut map = [0u64; 256];
-    words(numbers, 2, &mut map);
+    words(part(numbers, 2, len), &mut map);
     let answer = mtb_align::bitmap::get(
         &map[0..len],
         at(numbers, 2 + len),
@@ -29,9 +43,20 @@ pub(crate) fn get(numbers: &[u64]) -> bool {
         at(numbers, 4 + len),
         at(numbers, 5 + len),
     );
+    pixel_agrees(rest(numbers, 6 + len), answer)
+}
+
+// The answer is the map's first `len` words as they then are, or a refusal, after which they are as before; those past them have the mark.
+fn map_agrees(numbers: &[u64], answer: Outcome, before: &[u64], map: &[u64], len: usize) -> bool {
+    if len > map.len() {
+        return false;
+    }
+    if !marked_words(&map[len..]) {
+        return false;
+    }
     match answer {
-        PixelAnswer::Pixel(b) => at(numbers, 6 + len) == 0 && at(numbers, 7 + len) == bit(b),
-        PixelAnswer::Refused(e) => at(numbers, 6 + len) == e.number() as usize,
+        Outcome::Done => words_listed(numbers, &map[0..len]),
+        Outcome::Refused(e) => refusal_agrees(numbers, e) && same_words(before, &map[0..len]),
     }
 }
 
@@ -43,28 +68,38 @@ fn set_in(numbers: &[u64], map: &mut [u64], len: usize) -> bool {
     if len > 256 {
         return false;
     }
-    words(numbers, 2, &mut map[0..len]);
+    words(part(numbers, 2, len), &mut map[0..len]);
     let value = at(numbers, 6 + len) == 1;
-    let answer = status(mtb_align::bitmap::set(
+    let answer = mtb_align::bitmap::set(
         &mut map[0..len],
         at(numbers, 2 + len),
         at(numbers, 3 + len),
         at(numbers, 4 + len),
         at(numbers, 5 + len),
         value,
-    ));
-    if at(numbers, 7 + len) != answer as usize {
-        return false;
-    }
-    if answer != 0 {
-        return words_agree(numbers, 1, 0, map, len);
-    }
-    words_agree(numbers, 8 + len, 0, map, len)
+    );
+    map_agrees(
+        rest(numbers, 7 + len),
+        answer,
+        part(numbers, 2, len),
+        map,
+        len,
+    )
 }
 
 pub(crate) fn set(numbers: &[u64]) -> bool {
     let mut map = [MARK_WORD; 512];
     set_in(numbers, &mut map, at(numbers, 1))
+}
+
+fn total_agrees(numbers: &[u64], answer: TotalAnswer) -> bool {
+    match answer {
+        TotalAnswer::Total(n) => {
+            let list = [0, n];
+            same_words(numbers, &list)
+        }
+        TotalAnswer::Refused(e) => refusal_agrees(numbers, e),
+    }
 }
 
 pub(crate) fn count_ones(numbers: &[u64]) -> bool {
@@ -73,11 +108,13 @@ pub(crate) fn count_ones(numbers: &[u64]) -> bool {
         return false;
     }
     let mut map = [0u64; 256];
-    words(numbers, 2, &mut map);
-    match mtb_align::bitmap::count_ones(&map[0..len], at(numbers, 2 + len), at(numbers, 3 + len)) {
-        TotalAnswer::Total(n) => at(numbers, 4 + len) == 0 && at(numbers, 5 + len) == n as usize,
-        TotalAnswer::Refused(e) => at(numbers, 4 + len) == e.number() as usize,
-    }
+    words(part(numbers, 2, len), &mut map);
+    let answer = mtb_align::bitmap::count_ones(
+        &map[0..len],
+        at(numbers, 2 + len),
+        at(numbers, 3 + len),
+    );
+    total_agrees(rest(numbers, 4 + len), answer)
 }
 
 pub(crate) fn row(numbers: &[u64]) -> bool {
@@ -86,14 +123,12 @@ pub(crate) fn row(numbers: &[u64]) -> bool {
         return false;
     }
     let mut map = [0u64; 256];
-    words(numbers, 2, &mut map);
-    let part = mtb_align::bitmap::row(
+    words(part(numbers, 2, len), &mut map);
+    let found = mtb_align::bitmap::row(
         &map[0..len],
         at(numbers, 2 + len),
         at(numbers, 3 + len),
         at(numbers, 4 + len),
     );
-    at(numbers, 5 + len) == 0
-        && at(numbers, 6 + len) == part.len()
-        && same_words(numbers, 7 + len, part)
+    words_listed(rest(numbers, 5 + len), found)
 }

@@ -1,20 +1,20 @@
 // Frames: from_rgb, shrink2, threshold, compute_bitmaps.
 use mtb_align::error::Outcome;
-use mtb_align::shrink::Shrink;
 use mtb_align::threshold::CutAnswer;
 use replay::MARK;
 use replay::MARK_WORD;
+use replay::answers::byte;
+use replay::answers::bytes_agree;
+use replay::answers::mode;
+use replay::answers::refusal_agrees;
+use replay::answers::words_listed;
 use replay::at;
 use replay::bytes;
-use replay::bytes_agree;
-use replay::words_agree;
-
-pub(crate) fn status(o: Outcome) -> u32 {
-    match o {
-        Outcome::Done => 0,
-        Outcome::Refused(e) => e.number(),
-    }
-}
+use replay::marked_bytes;
+use replay::marked_words;
+use replay::part;
+use replay::rest;
+use replay::same_words;
 
 // The frame of `len` samples is loaded; its size follows it.
 fn from_rgb_in(numbers: &[u64], rgb: &[u8], gray: &mut [u8]) -> bool {
@@ -32,7 +32,7 @@ fn from_rgb_in(numbers: &[u64], rgb: &[u8], gray: &mut [u8]) -> bool {
         at(numbers, 3 + len),
         &mut gray[0..out],
     );
-    bytes_agree(numbers, 5 + len, status(answer), gray, out)
+    bytes_agree(rest(numbers, 5 + len), answer, &gray[0..out]) && marked_bytes(&gray[out..])
 }
 
 pub(crate) fn from_rgb(numbers: &[u64]) -> bool {
@@ -41,16 +41,9 @@ pub(crate) fn from_rgb(numbers: &[u64]) -> bool {
         return false;
     }
     let mut rgb = [0u8; 8448];
-    bytes(numbers, 2, &mut rgb);
+    bytes(part(numbers, 2, len), &mut rgb);
     let mut gray = [MARK; 8448];
     from_rgb_in(numbers, &rgb[0..len], &mut gray)
-}
-
-fn mode(subsampled: usize) -> Shrink {
-    if subsampled == 1 {
-        return Shrink::Subsample;
-    }
-    Shrink::Average
 }
 
 fn shrink2_in(numbers: &[u64], samples: &[u8], shrunk: &mut [u8]) -> bool {
@@ -70,7 +63,7 @@ fn shrink2_in(numbers: &[u64], samples: &[u8], shrunk: &mut [u8]) -> bool {
         shrink,
         &mut shrunk[0..out],
     );
-    bytes_agree(numbers, 6 + len, status(answer), shrunk, out)
+    bytes_agree(rest(numbers, 6 + len), answer, &shrunk[0..out]) && marked_bytes(&shrunk[out..])
 }
 
 pub(crate) fn shrink2(numbers: &[u64]) -> bool {
@@ -79,9 +72,19 @@ pub(crate) fn shrink2(numbers: &[u64]) -> bool {
         return false;
     }
     let mut samples = [0u8; 8448];
-    bytes(numbers, 2, &mut samples);
+    bytes(part(numbers, 2, len), &mut samples);
     let mut shrunk = [MARK; 8448];
     shrink2_in(numbers, &samples[0..len], &mut shrunk)
+}
+
+fn cut_agrees(numbers: &[u64], answer: CutAnswer) -> bool {
+    match answer {
+        CutAnswer::Cut(c) => {
+            let list = [0, c as u64];
+            same_words(numbers, &list)
+        }
+        CutAnswer::Refused(e) => refusal_agrees(numbers, e),
+    }
 }
 
 pub(crate) fn threshold(numbers: &[u64]) -> bool {
@@ -91,12 +94,29 @@ pub(crate) fn threshold(numbers: &[u64]) -> bool {
     }
     let width = at(numbers, 2 + len);
     let height = at(numbers, 3 + len);
-    let percentile = (at(numbers, 4 + len) % 256) as u8;
+    let percentile = byte(at(numbers, 4 + len));
     let mut samples = [0u8; 8448];
-    bytes(numbers, 2, &mut samples);
-    match mtb_align::threshold::threshold(&samples[0..len], width, height, percentile) {
-        CutAnswer::Cut(c) => at(numbers, 5 + len) == 0 && at(numbers, 6 + len) == c as usize,
-        CutAnswer::Refused(e) => at(numbers, 5 + len) == e.number() as usize,
+    bytes(part(numbers, 2, len), &mut samples);
+    let answer = mtb_align::threshold::threshold(&samples[0..len], width, height, percentile);
+    cut_agrees(rest(numbers, 5 + len), answer)
+}
+
+// The answer is both bitmaps, or a refusal, after which both still have the mark.
+fn packed_agrees(numbers: &[u64], answer: Outcome, threshold: &[u64], exclusion: &[u64]) -> bool {
+    let first = threshold.len();
+    if first > 8448 {
+        return false;
+    }
+    match answer {
+        Outcome::Done => {
+            let second = [exclusion.len() as u64];
+            words_listed(part(numbers, 0, 2 + first), threshold)
+                && same_words(part(numbers, 2 + first, 1), &second)
+                && same_words(rest(numbers, 3 + first), exclusion)
+        }
+        Outcome::Refused(e) => {
+            refusal_agrees(numbers, e) && marked_words(threshold) && marked_words(exclusion)
+        }
     }
 }
 
@@ -110,35 +130,37 @@ fn compute_bitmaps_in(
     if len > 8448 {
         return false;
     }
-    let percentile = (at(numbers, 4 + len) % 256) as u8;
-    let tolerance = (at(numbers, 5 + len) % 256) as u8;
     let first = at(numbers, 6 + len);
     let second = at(numbers, 7 + len);
     if first > threshold.len() {
         return false;
     }
-    if first > 8448 {
+    if first > 256 {
         return false;
     }
     if second > exclusion.len() {
         return false;
     }
-    let answer = status(mtb_align::threshold::compute_bitmaps(
+    if second > 256 {
+        return false;
+    }
+    let answer = mtb_align::threshold::compute_bitmaps(
         samples,
         at(numbers, 2 + len),
         at(numbers, 3 + len),
-        percentile,
-        tolerance,
+        byte(at(numbers, 4 + len)),
+        byte(at(numbers, 5 + len)),
         &mut threshold[0..first],
         &mut exclusion[0..second],
-    ));
-    if at(numbers, 8 + len) != answer as usize {
-        return false;
-    }
-    if !words_agree(numbers, 9 + len, answer, threshold, first) {
-        return false;
-    }
-    words_agree(numbers, 10 + len + first, answer, exclusion, second)
+    );
+    packed_agrees(
+        rest(numbers, 8 + len),
+        answer,
+        &threshold[0..first],
+        &exclusion[0..second],
+    )
+        && marked_words(&threshold[first..])
+        && marked_words(&exclusion[second..])
 }
 
 pub(crate) fn compute_bitmaps(numbers: &[u64]) -> bool {
@@ -147,7 +169,7 @@ pub(crate) fn compute_bitmaps(numbers: &[u64]) -> bool {
         return false;
     }
     let mut samples = [0u8; 8448];
-    bytes(numbers, 2, &mut samples);
+    bytes(part(numbers, 2, len), &mut samples);
     let mut threshold = [MARK_WORD; 256];
     let mut exclusion = [MARK_WORD; 256];
     compute_bitmaps_in(numbers, &samples[0..len], &mut threshold, &mut exclusion)

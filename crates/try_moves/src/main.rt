@@ -17,6 +17,14 @@ fn agrees(numbers: &[u64]) -> bool {
     }
 }
 
+// A line has no more numbers than there is room for.
+fn line_agrees(numbers: &[u64], count: usize) -> bool {
+    if count > numbers.len() {
+        return false;
+    }
+    agrees(&numbers[0..count])
+}
+
 fn replayed(text: &[u8]) {
     let mut numbers = [0u64; 17408];
     let mut cases: u64 = 0;
@@ -27,7 +35,7 @@ fn replayed(text: &[u8]) {
             return;
         }
         let found = read_line(text, next, &mut numbers);
-        if !agrees(&numbers) {
+        if !line_agrees(&numbers, found.count) {
             conclude(false, at(&numbers, 0), cases);
             return;
         }

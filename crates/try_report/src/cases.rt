@@ -6,85 +6,58 @@ use mtb_align::report::Terms;
 use replay::MARK;
 use replay::MARK_COORDINATE;
 use replay::MARK_WORD;
+use replay::answers::bits;
+use replay::answers::options;
+use replay::answers::past_marked;
+use replay::answers::refusal_agrees;
 use replay::at;
 use replay::bytes;
 use replay::marked_bytes;
 use replay::marked_coordinates;
+use replay::part;
+use replay::rest;
 use replay::same_bytes;
 use replay::same_coordinates;
+use replay::same_fields;
+use replay::same_words;
 use replay::sizes;
-use replay::stacks::bits;
-use replay::stacks::options_at;
-use replay::stacks::refusal_agrees;
-use replay::stacks::rest_marked;
 
-fn terms_at(numbers: &[u64], from: usize) -> Terms {
-    if from > 1048576 {
-        return Terms {
-            reach: 0,
-            floor: 0,
-            margin: 0,
-        };
-    }
+// The terms that the numbers begin with.
+fn terms(numbers: &[u64]) -> Terms {
     Terms {
-        reach: bits(at(numbers, from)),
-        floor: bits(at(numbers, from + 1)),
-        margin: bits(at(numbers, from + 2)),
+        reach: bits(at(numbers, 0)),
+        floor: bits(at(numbers, 1)),
+        margin: bits(at(numbers, 2)),
     }
 }
 
-fn crop_agrees(numbers: &[u64], from: usize, crop: Rect) -> bool {
-    if from > 131072 {
+// The crop, the number of records and that of their fields, and the fields; what lies past them is marked.
+fn records_agree(numbers: &[u64], crop: Rect, count: usize, records: &[u8]) -> bool {
+    if count > records.len() / 20 {
         return false;
     }
-    at(numbers, from) == crop.x
-        && at(numbers, from + 1) == crop.y
-        && at(numbers, from + 2) == crop.width
-        && at(numbers, from + 3) == crop.height
+    let end = 20 * count;
+    let head = [
+        crop.x as u64,
+        crop.y as u64,
+        crop.width as u64,
+        crop.height as u64,
+        count as u64,
+        5 * count as u64,
+    ];
+    same_words(part(numbers, 0, 6), &head)
+        && same_fields(rest(numbers, 6), &records[0..end])
+        && marked_bytes(&records[end..])
 }
 
-// The number of records and then the list of their bytes; what lies past them is marked.
-fn records_agree(numbers: &[u64], from: usize, count: usize, records: &[u8]) -> bool {
-    if from > 131072 {
-        return false;
-    }
-    if at(numbers, from) != count {
-        return false;
-    }
-    let n = at(numbers, from + 1);
-    if n > records.len() {
-        return false;
-    }
-    same_bytes(numbers, from + 2, &records[0..n]) && marked_bytes(&records[n..])
-}
-
-// The lists of shifts and verdicts.
-fn lists_agree(numbers: &[u64], from: usize, shifts: &[i32], verdicts: &[u8]) -> bool {
-    if from > 65536 {
-        return false;
-    }
-    let m = shifts.len();
-    if m > 64 {
-        return false;
-    }
-    at(numbers, from) == m
-        && same_coordinates(numbers, from + 1, shifts)
-        && at(numbers, from + 1 + m) == verdicts.len()
-        && same_bytes(numbers, from + 2 + m, verdicts)
-}
-
-// An accepted report.
+// An accepted report: 0, the list of shifts, the list of verdicts, and what follows them.
 fn summary_agrees(
     numbers: &[u64],
-    from: usize,
     summary: Summary,
     shifts: &[i32],
     verdicts: &[u8],
     records: &[u8],
 ) -> bool {
-    if from > 65536 {
-        return false;
-    }
     let m = shifts.len();
     if m > 64 {
         return false;
@@ -93,31 +66,34 @@ fn summary_agrees(
     if n > 32 {
         return false;
     }
-    let past = from + 2 + m + n;
-    lists_agree(numbers, from, shifts, verdicts)
-        && crop_agrees(numbers, past, summary.crop)
-        && records_agree(numbers, past + 4, summary.records, records)
+    let head = [0, m as u64];
+    let next = [n as u64];
+    same_words(part(numbers, 0, 2), &head)
+        && same_coordinates(part(numbers, 2, m), shifts)
+        && same_words(part(numbers, 2 + m, 1), &next)
+        && same_bytes(part(numbers, 3 + m, n), verdicts)
+        && records_agree(
+            rest(numbers, 3 + m + n),
+            summary.crop,
+            summary.records,
+            records,
+        )
 }
 
-// The answer at `from`: a report, or a refusal, after which all lists still have the mark.
+// The answer is a report, or a refusal, after which all lists still have the mark.
 fn answer_agrees(
     numbers: &[u64],
-    from: usize,
     answer: ReportAnswer,
     shifts: &[i32],
     verdicts: &[u8],
     records: &[u8],
 ) -> bool {
-    if from > 32768 {
-        return false;
-    }
     match answer {
         ReportAnswer::Reported(summary) => {
-            at(numbers, from) == 0
-                && summary_agrees(numbers, from + 1, summary, shifts, verdicts, records)
+            summary_agrees(numbers, summary, shifts, verdicts, records)
         }
         ReportAnswer::Refused(e) => {
-            refusal_agrees(numbers, from, e)
+            refusal_agrees(numbers, e)
                 && marked_coordinates(shifts)
                 && marked_bytes(verdicts)
                 && marked_bytes(records)
@@ -125,10 +101,9 @@ fn answer_agrees(
     }
 }
 
-// The number at `from` is the reference.
+// The numbers begin with the reference.
 fn reported(
     numbers: &[u64],
-    from: usize,
     widths: &[usize],
     heights: &[usize],
     samples: &[u8],
@@ -138,59 +113,52 @@ fn reported(
     room: &mut [u8],
     words: &mut [u64],
 ) -> bool {
-    if from > 17408 {
-        return false;
-    }
     let answer = mtb_align::report::report(
         widths,
         heights,
         samples,
-        at(numbers, from),
-        options_at(numbers, from + 1),
-        terms_at(numbers, from + 5),
+        at(numbers, 0),
+        options(rest(numbers, 1)),
+        terms(rest(numbers, 5)),
         shifts,
         verdicts,
         records,
         room,
         words,
     );
-    answer_agrees(numbers, from + 15, answer, shifts, verdicts, records)
-        && rest_marked(numbers, from + 12, room, words)
+    answer_agrees(rest(numbers, 15), answer, shifts, verdicts, records)
+        && past_marked(part(numbers, 12, 2), room, words)
 }
 
-// Lends the buffers, whose lengths stand from number `from + 8` on.
-fn lent(numbers: &[u64], from: usize, widths: &[usize], heights: &[usize], samples: &[u8]) -> bool {
-    if from > 17408 {
-        return false;
-    }
-    let m = at(numbers, from + 8);
+// Lends the buffers, whose lengths stand from number 8 on.
+fn lent(numbers: &[u64], widths: &[usize], heights: &[usize], samples: &[u8]) -> bool {
+    let m = at(numbers, 8);
     if m > 64 {
         return false;
     }
-    let n = at(numbers, from + 9);
+    let n = at(numbers, 9);
     if n > 32 {
         return false;
     }
-    let more = at(numbers, from + 10);
+    let more = at(numbers, 10);
     if more > 2048 {
         return false;
     }
-    let most = at(numbers, from + 11);
+    let most = at(numbers, 11);
     if most > 1024 {
         return false;
     }
-    let space = at(numbers, from + 14);
-    if space > 8192 {
+    let space = at(numbers, 14);
+    if space > 73728 {
         return false;
     }
     let mut shifts = [MARK_COORDINATE; 64];
     let mut verdicts = [MARK; 32];
-    let mut records = [MARK; 8192];
+    let mut records = [MARK; 73728];
     let mut room = [MARK; 2048];
     let mut words = [MARK_WORD; 1024];
     reported(
         numbers,
-        from,
         widths,
         heights,
         samples,
@@ -218,12 +186,11 @@ pub(crate) fn report(numbers: &[u64]) -> bool {
     let mut samples = [0u8; 16640];
     let mut widths = [0usize; 32];
     let mut heights = [0usize; 32];
-    bytes(numbers, 2, &mut samples);
-    sizes(numbers, 3 + m, &mut widths);
-    sizes(numbers, 4 + m + n, &mut heights);
+    bytes(part(numbers, 2, m), &mut samples);
+    sizes(part(numbers, 3 + m, n), &mut widths);
+    sizes(part(numbers, 4 + m + n, k), &mut heights);
     lent(
-        numbers,
-        4 + m + n + k,
+        rest(numbers, 4 + m + n + k),
         &widths[0..n],
         &heights[0..k],
         &samples[0..m],

@@ -13,8 +13,16 @@ fn agrees(numbers: &[u64]) -> bool {
     }
 }
 
+// A line has no more numbers than there is room for.
+fn line_agrees(numbers: &[u64], count: usize) -> bool {
+    if count > numbers.len() {
+        return false;
+    }
+    agrees(&numbers[0..count])
+}
+
 fn replayed(text: &[u8]) {
-    let mut numbers = [0u64; 17408];
+    let mut numbers = [0u64; 20480];
     let mut cases: u64 = 0;
     let mut next: usize = 0;
     while cases < 100000 {
@@ -23,7 +31,7 @@ fn replayed(text: &[u8]) {
             return;
         }
         let found = read_line(text, next, &mut numbers);
-        if !agrees(&numbers) {
+        if !line_agrees(&numbers, found.count) {
             conclude(false, at(&numbers, 0), cases);
             return;
         }

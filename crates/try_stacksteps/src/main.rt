@@ -13,8 +13,11 @@ fn text_agrees(input: &[u8], expected: &[u8]) -> bool {
     check::same(&out[0..end], expected) && marked_bytes(&out[end..])
 }
 
-// The input of n bytes from `from` on, and the m bytes behind it.
-fn agrees(text: &[u8], from: usize, n: usize, m: usize) -> bool {
+// The input of n bytes from `from` on, and the m bytes behind it. The line before them has two numbers.
+fn agrees(text: &[u8], count: usize, from: usize, n: usize, m: usize) -> bool {
+    if count != 2 {
+        return false;
+    }
     if n > 65536 {
         return false;
     }
@@ -52,7 +55,7 @@ fn run(text: &[u8]) {
         let found = read_line(text, next, &mut lengths);
         let n = at(&lengths, 0);
         let m = at(&lengths, 1);
-        if !agrees(text, found.next, n, m) {
+        if !agrees(text, found.count, found.next, n, m) {
             conclude(false, 0, cases);
             return;
         }

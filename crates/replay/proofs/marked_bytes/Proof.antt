@@ -1,26 +1,28 @@
--- `replay::marked_bytes` is safe and ends. Assumes nothing.
-use mathlib.Core.Path.{_≡_, refl, sym, ap, _∙_}
-use Prim.Native.Nat.{_-_, _≤_}
+-- `replay::marked_bytes` meets its contract. The first i bytes have the mark. Assumes nothing.
 use borrow.Author.Needs.{needs}
-use native.Mathlib.Omega.{arith}
-use lib.ListN.{length}
+use Prim.Native.Nat.{ℕ, _-_, _≤_, _<_}
+use mathlib.Core.Path.{_≡_}
+use lib.ListN.{length, getD}
+use borrow.Author.Count.{below-none, below-more}
+use Rattle.replay.proofs.Entries.{marked-all, marked-at}
+use Rattle.replay.proofs.Told.{yes, no}
 use Rattle.replay.proofs.marked_bytes.Statement.{statement}
 use Rattle.replay.proofs.marked_bytes.Tie as tie
 
 abbrev Inv-loop : tie.InvT-loop
-Inv-loop got i₀ i = i ≤ length got
+Inv-loop got i₀ i = (i ≤ length got) × ((k : ℕ) → k < i → getD got k 0 ≡ 165)
 
 abbrev μ-loop : tie.MeasureT-loop
 μ-loop got i₀ i = length got - i
 
 loop-holds : tie.Need-loop-holds Inv-loop μ-loop
-loop-holds c = search needs
+loop-holds c = (search needs, below-none _)
 
 shared-slice-read-if1 : tie.Need-shared-slice-read-if1 Inv-loop μ-loop
 shared-slice-read-if1 c = search needs
 
 returns : tie.Need-returns Inv-loop μ-loop
-returns c = search needs
+returns c = no (λ e. c .if1 .taken (marked-at 0 _ _ _ (search needs) e))
 
 add-i : tie.Need-add-i Inv-loop μ-loop
 add-i c = search needs
@@ -29,10 +31,10 @@ loop-less : tie.Need-loop-less Inv-loop μ-loop
 loop-less c = search needs
 
 loop-again : tie.Need-loop-again Inv-loop μ-loop
-loop-again c = search needs
+loop-again c = (search needs, below-more _ _ (c .before .before .before .loop .inv .1) (search needs))
 
 returns-2 : tie.Need-returns-2 Inv-loop μ-loop
-returns-2 c = search needs
+returns-2 c = yes (marked-all 0 _ _ _ (c .loop-test .left) (c .before .loop .inv .1))
 
 pub marked-bytes-spec : {M : Type 1} → statement M
 marked-bytes-spec =

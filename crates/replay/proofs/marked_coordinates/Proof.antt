@@ -1,20 +1,26 @@
--- `replay::marked_coordinates` is safe and ends. Assumes nothing.
-use mathlib.Core.Path.{_≡_, refl, sym, ap, _∙_}
-use Prim.Native.Nat.{_-_, _≤_}
+-- `replay::marked_coordinates` meets its contract. The first i coordinates have the mark. Assumes nothing.
 use borrow.Author.Needs.{needs}
-use native.Mathlib.Omega.{arith}
-use lib.ListN.{length}
+use Prim.Native.Nat.{ℕ, _-_, _≤_, _<_}
+use mathlib.Core.Path.{_≡_, sym, ap, _∙_}
+use lib.ListN.{length, getD}
+use borrow.Author.Count.{below-none, below-more}
+use Rattle.replay.proofs.Entries.{marked-all, marked-at}
+use Rattle.replay.proofs.Told.{yes, no}
+use lib.IntN.{pos, negsuc}
+use mir.Syntax.{w32}
+use mir.Val.{toZ, ofZ}
+use mir.Facts.{toZ-ofZ}
 use Rattle.replay.proofs.marked_coordinates.Statement.{statement}
 use Rattle.replay.proofs.marked_coordinates.Tie as tie
 
 abbrev Inv-loop : tie.InvT-loop
-Inv-loop got i₀ i = i ≤ length got
+Inv-loop got i₀ i = (i ≤ length got) × ((k : ℕ) → k < i → getD got k (pos 0) ≡ negsuc 1515870810)
 
 abbrev μ-loop : tie.MeasureT-loop
 μ-loop got i₀ i = length got - i
 
 loop-holds : tie.Need-loop-holds Inv-loop μ-loop
-loop-holds c = search needs
+loop-holds c = (search needs, below-none _)
 
 mul-if1 : tie.Need-mul-if1 Inv-loop μ-loop
 mul-if1 c = search needs
@@ -23,7 +29,7 @@ shared-slice-copy-out-if1 : tie.Need-shared-slice-copy-out-if1 Inv-loop μ-loop
 shared-slice-copy-out-if1 c = search needs
 
 returns : tie.Need-returns Inv-loop μ-loop
-returns c = search needs
+returns c = no (λ e. c .if1 .taken (ap (ofZ w32) (marked-at (pos 0) _ (negsuc 1515870810) (c .before .before .before .loop .i) (search needs) e)))
 
 add-i : tie.Need-add-i Inv-loop μ-loop
 add-i c = search needs
@@ -32,10 +38,14 @@ loop-less : tie.Need-loop-less Inv-loop μ-loop
 loop-less c = search needs
 
 loop-again : tie.Need-loop-again Inv-loop μ-loop
-loop-again c = search needs
+loop-again c = (
+  search needs,
+  below-more _ _ (c .before .before .before .loop .inv .1)
+      (sym (toZ-ofZ {w = w32} (record { sfits = c .before .if12 .given })) ∙ ap (toZ w32) (c .if1 .left)),
+)
 
 returns-2 : tie.Need-returns-2 Inv-loop μ-loop
-returns-2 c = search needs
+returns-2 c = yes (marked-all (pos 0) _ _ _ (c .loop-test .left) (c .before .loop .inv .1))
 
 pub marked-coordinates-spec : {M : Type 1} → statement M
 marked-coordinates-spec =

@@ -1,23 +1,25 @@
--- `replay::same_words` is safe and ends. Assumes nothing.
-use mathlib.Core.Path.{_≡_, refl, sym, ap, _∙_}
-use Prim.Native.Nat.{_-_, _≤_}
+-- `replay::same_words` meets its contract. The first i entries are the same. Assumes nothing.
 use borrow.Author.Needs.{needs}
-use native.Mathlib.Omega.{arith}
-use lib.ListN.{length}
+use Prim.Native.Nat.{ℕ, _-_, _≤_, _<_}
+use mathlib.Core.Path.{_≡_, ap}
+use lib.ListN.{length, getD}
+use borrow.Author.Count.{below-none, below-more}
+use Rattle.replay.proofs.Entries.{same-all, same-at}
+use Rattle.replay.proofs.Told.{yes, no}
 use Rattle.replay.proofs.same_words.Statement.{statement}
 use Rattle.replay.proofs.same_words.Tie as tie
 
 abbrev Inv-loop : tie.InvT-loop
-Inv-loop numbers from got i₀ k₀ i k = i ≤ length got
+Inv-loop numbers got i₀ i = (length numbers ≡ length got) × (i ≤ length got) × ((k : ℕ) → k < i → getD numbers k 0 ≡ getD got k 0)
 
 abbrev μ-loop : tie.MeasureT-loop
-μ-loop numbers from got i₀ k₀ i k = length got - i
-
-loop-holds : tie.Need-loop-holds Inv-loop μ-loop
-loop-holds c = search needs
+μ-loop numbers got i₀ i = length got - i
 
 returns : tie.Need-returns Inv-loop μ-loop
-returns c = search needs
+returns c = no (λ e. c .if1 .taken (ap length e))
+
+loop-holds : tie.Need-loop-holds Inv-loop μ-loop
+loop-holds c = (search needs, search needs, below-none _)
 
 mul-if2 : tie.Need-mul-if2 Inv-loop μ-loop
 mul-if2 c = search needs
@@ -32,22 +34,19 @@ shared-slice-read-if2-2 : tie.Need-shared-slice-read-if2-2 Inv-loop μ-loop
 shared-slice-read-if2-2 c = search needs
 
 returns-2 : tie.Need-returns-2 Inv-loop μ-loop
-returns-2 c = search needs
+returns-2 c = no (λ e. c .if2 .taken (same-at 0 _ _ _ e))
 
 add-i : tie.Need-add-i Inv-loop μ-loop
 add-i c = search needs
-
-add-k : tie.Need-add-k Inv-loop μ-loop
-add-k c = search needs
 
 loop-less : tie.Need-loop-less Inv-loop μ-loop
 loop-less c = search needs
 
 loop-again : tie.Need-loop-again Inv-loop μ-loop
-loop-again c = search needs
+loop-again c = (search needs, search needs, below-more _ _ (c .before .before .before .before .loop .inv .2) (c .if2 .left))
 
 returns-3 : tie.Need-returns-3 Inv-loop μ-loop
-returns-3 c = search needs
+returns-3 c = yes (same-all 0 _ _ _ (c .before .loop .inv .0) (c .loop-test .left) (c .before .loop .inv .2))
 
 pub same-words-spec : {M : Type 1} → statement M
 same-words-spec =
@@ -55,15 +54,14 @@ same-words-spec =
     (tie.spec
     Inv-loop
     μ-loop
-    loop-holds
     returns
+    loop-holds
     mul-if2
     shared-slice-read-if2
     mul-if2-2
     shared-slice-read-if2-2
     returns-2
     add-i
-    add-k
     loop-less
     loop-again
     returns-3)

@@ -1,26 +1,27 @@
--- `replay::words` is safe and ends. Assumes nothing.
-use mathlib.Core.Path.{_≡_, refl, sym, ap, _∙_}
-use Prim.Native.Nat.{_-_, _≤_}
+-- `replay::words` meets its contract. The numbers from i on are left. Assumes nothing.
 use borrow.Author.Needs.{needs}
-use native.Mathlib.Omega.{arith}
-use lib.ListN.{length}
+use mathlib.Core.Path.{_≡_, refl, _∙_}
+use Prim.Native.Nat.{_-_}
+use lib.ListN.{length, drop}
+use lib.Seq.{sets}
+use Rattle.replay.proofs.Entries.{store-more, store-end, store-full}
 use Rattle.replay.proofs.words.Statement.{statement}
 use Rattle.replay.proofs.words.Tie as tie
 
 abbrev Inv-loop : tie.InvT-loop
-Inv-loop numbers from out₀ i₀ k₀ out i k = length out ≡ length out₀
+Inv-loop numbers out₀ i₀ out i = (length out ≡ length out₀) × (sets out i (drop i numbers) ≡ sets out₀ 0 numbers)
 
 abbrev μ-loop : tie.MeasureT-loop
-μ-loop numbers from out₀ i₀ k₀ out i k = length out₀ - i
+μ-loop numbers out₀ i₀ out i = length out₀ - i
 
 loop-holds : tie.Need-loop-holds Inv-loop μ-loop
-loop-holds c = search needs
+loop-holds c = (refl, refl)
 
 same-length : tie.Need-same-length Inv-loop μ-loop
 same-length c = search needs
 
 returns : tie.Need-returns Inv-loop μ-loop
-returns c = search needs
+returns c = let l = c .before .before .loop in store-end 0 _ (l .out) (l .i) (c .if1 .taken) ∙ l .inv .1
 
 mul-out : tie.Need-mul-out Inv-loop μ-loop
 mul-out c = search needs
@@ -37,20 +38,17 @@ slice-write-out c = search needs
 add-i : tie.Need-add-i Inv-loop μ-loop
 add-i c = search needs
 
-add-k : tie.Need-add-k Inv-loop μ-loop
-add-k c = search needs
-
 loop-less : tie.Need-loop-less Inv-loop μ-loop
 loop-less c = search needs
 
 loop-again : tie.Need-loop-again Inv-loop μ-loop
-loop-again c = search needs
+loop-again c = let l = c .before .before .before .loop in (search needs, store-more 0 _ (l .out) (l .i) _ (c .before .if1 .left) refl ∙ l .inv .1)
 
 same-length-2 : tie.Need-same-length-2 Inv-loop μ-loop
 same-length-2 c = search needs
 
 returns-2 : tie.Need-returns-2 Inv-loop μ-loop
-returns-2 c = search needs
+returns-2 c = let l = c .before .loop in store-full 0 _ (l .out) (l .i) (c .loop-test .left) ∙ l .inv .1
 
 pub words-spec : {M : Type 1} → statement M
 words-spec =
@@ -66,7 +64,6 @@ words-spec =
     mul-out-2
     slice-write-out
     add-i
-    add-k
     loop-less
     loop-again
     same-length-2

@@ -7,7 +7,7 @@ use Rattle.try_report.proofs.replayed.Statement.{statement}
 use Rattle.try_report.proofs.replayed.Tie as tie
 
 abbrev Inv-loop : tie.InvT-loop
-Inv-loop text numbers₀ cases₀ next₀ numbers cases next = length numbers ≡ 17408
+Inv-loop text numbers₀ cases₀ next₀ numbers cases next = length numbers ≡ 20480
 
 abbrev μ-loop : tie.MeasureT-loop
 μ-loop text numbers₀ cases₀ next₀ numbers cases next = 100000 - cases
@@ -27,11 +27,11 @@ slice-aggregate-read-line c = search needs
 read-line-requires : tie.Need-read-line-requires Inv-loop μ-loop
 read-line-requires c κs = search needs
 
-slice-aggregate-agrees : tie.Need-slice-aggregate-agrees Inv-loop μ-loop
-slice-aggregate-agrees c = search needs
+slice-aggregate-line-agrees : tie.Need-slice-aggregate-line-agrees Inv-loop μ-loop
+slice-aggregate-line-agrees c = search needs
 
-agrees-requires : tie.Need-agrees-requires Inv-loop μ-loop
-agrees-requires c κs = search needs
+line-agrees-requires : tie.Need-line-agrees-requires Inv-loop μ-loop
+line-agrees-requires c κs = search needs
 
 slice-aggregate-at : tie.Need-slice-aggregate-at Inv-loop μ-loop
 slice-aggregate-at c = search needs
@@ -68,8 +68,8 @@ replayed-spec =
     returns
     slice-aggregate-read-line
     read-line-requires
-    slice-aggregate-agrees
-    agrees-requires
+    slice-aggregate-line-agrees
+    line-agrees-requires
     slice-aggregate-at
     at-requires
     conclude-requires-2

@@ -1,0 +1,15 @@
+-- `replay::answers::mode` meets its contract. Assumes nothing.
+use mathlib.Core.Path.{sym}
+use borrow.Author.Tests.{eq-eqb, ne-eqb}
+use Rattle.replay.proofs.Told.{chosen, passed}
+use Rattle.replay.proofs.answers.mode.Statement.{statement}
+use Rattle.replay.proofs.answers.mode.Tie as tie
+
+returns : tie.Need-returns
+returns c = sym (chosen _ _ (eq-eqb _ _ (c .if1 .taken)))
+
+returns-2 : tie.Need-returns-2
+returns-2 c = sym (passed _ _ (ne-eqb _ _ (c .if1 .left)))
+
+pub mode-spec : {M : Type 1} → statement M
+mode-spec = tie.close (tie.spec returns returns-2)

@@ -1,0 +1,5 @@
+-- What the test programs' shared functions compute.
+pub mod Answers
+pub mod Examples
+pub mod Lines
+pub mod Lists

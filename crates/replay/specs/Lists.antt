@@ -1,0 +1,37 @@
+-- What a test answers, and how numbers of a line are read.
+use Prim.Native.Nat.{ℕ, _+_, _-_, _*_, _%_}
+use mathlib.Core.Path.{_≡_}
+use mathlib.Core.Bool.{Bool, true, cond, _&&_}
+use mathlib.Core.List.{List}
+use lib.Dec.{ltb, leb}
+use lib.IntN.{ℤ, pos, _-ℤ_}
+use lib.ListN.{length, getD, replicate}
+use Rattle.definitions.specs.Build.{build}
+
+-- A test's answer: yes just where the claim holds.
+abbrev pub Whether : Bool → Type 0 → Type 0
+Whether answer claim = (answer ≡ true → claim) × (claim → answer ≡ true)
+
+-- Every entry is the mark.
+abbrev pub Marked : {A : Type 0} → A → List A → Type 0
+Marked mark l = l ≡ replicate (length l) mark
+
+-- 32 bits from a byte on, low byte first.
+unfoldable pub fieldAt : List ℕ → ℕ → ℕ
+fieldAt bytes at =
+    getD bytes at 0 + 256 * getD bytes (at + 1) 0 + 65536 * getD bytes (at + 2) 0 + 16777216 * getD bytes (at + 3) 0
+
+-- Bytes that are these fields of 32 bits.
+pub record Fields (numbers bytes : List ℕ) : Type 0 where
+  pub long : length bytes ≡ 4 * length numbers
+  pub each : numbers ≡ build (length numbers) (λ (i : ℕ). fieldAt bytes (4 * i))
+
+-- A number as a byte.
+abbrev pub byteOf : ℕ → ℕ
+byteOf n = n % 256
+
+-- A number as a coordinate, 0 where it is none: a negative one has 2^63 added to its magnitude.
+unfoldable pub coordinateOf : ℕ → ℤ
+coordinateOf n =
+    cond (ltb n 2147483648) (pos n)
+    (cond (leb 9223372036854775808 n && leb n 9223372039002259456) (pos 0 -ℤ pos (n - 9223372036854775808)) (pos 0))
