@@ -44,7 +44,7 @@ extern "C" {
    bits         a step reaches 2^bits - 1 pixels on each axis, less on small frames: L is the least of bits - 1, log2(longest side) - 1
                 and log2(shortest side), logarithms rounded down and nothing below 0, and the step lies within 2^(L + 1) - 1. Any number is taken.
    tolerance    samples within this distance of the cut are not compared.
-   percentile   0 to 100: the share of a frame's samples that the cut leaves below it. 50 is the median.
+   percentile   0 to 100: the cut is the least value that has this share of a frame's samples below it. 50 is the median.
    subsampled   how frames are halved: MTB_AVERAGE takes the mean of four samples, MTB_SUBSAMPLE the upper left one. */
 #define MTB_BITS 6
 #define MTB_TOLERANCE 4
