@@ -1,5 +1,6 @@
 //! Holds the port against the original and the naive reading on seeded inputs, call
-//! by call, after one run of every call on a thread with little room. Takes a seed, or
+//! by call, after one run of every call on a thread with little room, of reports at the
+//! same time, and of refused calls with closed outputs. Takes a seed, or
 //! none for the usual one. Ends at the first disagreement.
 
 mod claims;
@@ -8,6 +9,7 @@ mod frames;
 mod lent;
 mod levels;
 mod moves;
+mod parallel;
 mod report;
 mod sealed;
 mod search;
@@ -43,7 +45,8 @@ const CALLS: [Call; 20] = [
 ];
 
 fn main() -> ExitCode {
-    if let Err(wrong) = threads::run().and_then(|()| sealed::run()) {
+    let first = [threads::run, parallel::run, sealed::run];
+    if let Err(wrong) = first.into_iter().try_for_each(|run| run()) {
         println!("{wrong}");
         return ExitCode::FAILURE;
     }
