@@ -152,6 +152,26 @@ seven p rt re st se i j step o₀ o₁ o₂ o₃ o₄ o₅ o₆ ex ey =
     let q₇ = run-more p rt re st se i j step 6 _ _ q₆ (i + 6 * step) (j + 6 * step) refl refl _ _ (shown-counted p rt re st se (i + 6 * step) (j + 6 * step) _ _ o₆) in
     counted-is q₇ (omega arith) (omega arith) (omega arith)
 
+pub seven-each : (p : List ℕ → ℕ → ℕ) (rt re st se : List ℕ) (i j step : ℕ) {a₀ b₀ a₁ b₁ a₂ b₂ a₃ b₃ a₄ b₄ a₅ b₅ a₆ b₆ x y : ℕ}
+    → Showing p rt re st se (i + 0 * step) (j + 0 * step) a₀ b₀
+    → Showing p rt re st se (i + 1 * step) (j + 1 * step) a₁ b₁
+    → Showing p rt re st se (i + 2 * step) (j + 2 * step) a₂ b₂
+    → Showing p rt re st se (i + 3 * step) (j + 3 * step) a₃ b₃
+    → Showing p rt re st se (i + 4 * step) (j + 4 * step) a₄ b₄
+    → Showing p rt re st se (i + 5 * step) (j + 5 * step) a₅ b₅
+    → Showing p rt re st se (i + 6 * step) (j + 6 * step) a₆ b₆
+    → x ≡ sum 64 (bitOf a₀) + sum 64 (bitOf a₁) + sum 64 (bitOf a₂) + sum 64 (bitOf a₃) + sum 64 (bitOf a₄) + sum 64 (bitOf a₅) + sum 64 (bitOf a₆)
+    → y ≡ sum 64 (bitOf b₀) + sum 64 (bitOf b₁) + sum 64 (bitOf b₂) + sum 64 (bitOf b₃) + sum 64 (bitOf b₄) + sum 64 (bitOf b₅) + sum 64 (bitOf b₆) → Counted (runSum p rt re st se i j step 7) 448 x y
+seven-each p rt re st se i j step o₀ o₁ o₂ o₃ o₄ o₅ o₆ ex ey =
+    let q₁ = run-more p rt re st se i j step 0 _ _ (run-none p rt re st se i j step) (i + 0 * step) (j + 0 * step) refl refl _ _ (shown-counted p rt re st se (i + 0 * step) (j + 0 * step) _ _ o₀) in
+    let q₂ = run-more p rt re st se i j step 1 _ _ q₁ (i + 1 * step) (j + 1 * step) refl refl _ _ (shown-counted p rt re st se (i + 1 * step) (j + 1 * step) _ _ o₁) in
+    let q₃ = run-more p rt re st se i j step 2 _ _ q₂ (i + 2 * step) (j + 2 * step) refl refl _ _ (shown-counted p rt re st se (i + 2 * step) (j + 2 * step) _ _ o₂) in
+    let q₄ = run-more p rt re st se i j step 3 _ _ q₃ (i + 3 * step) (j + 3 * step) refl refl _ _ (shown-counted p rt re st se (i + 3 * step) (j + 3 * step) _ _ o₃) in
+    let q₅ = run-more p rt re st se i j step 4 _ _ q₄ (i + 4 * step) (j + 4 * step) refl refl _ _ (shown-counted p rt re st se (i + 4 * step) (j + 4 * step) _ _ o₄) in
+    let q₆ = run-more p rt re st se i j step 5 _ _ q₅ (i + 5 * step) (j + 5 * step) refl refl _ _ (shown-counted p rt re st se (i + 5 * step) (j + 5 * step) _ _ o₅) in
+    let q₇ = run-more p rt re st se i j step 6 _ _ q₆ (i + 6 * step) (j + 6 * step) refl refl _ _ (shown-counted p rt re st se (i + 6 * step) (j + 6 * step) _ _ o₆) in
+    counted-is q₇ (omega arith) (omega arith) (omega arith)
+
 module _ (p : List ℕ → ℕ → ℕ) (rt re st se : List ℕ) (i j apart step lines len most : ℕ) {c d at from line : ℕ} (q : Ruling p rt re st se i j apart step lines len most c d at from line) where
   -- some lines from there on
   pub lines-inside : {size more : ℕ} (n : ℕ) → LinesReach size more i j apart step lines len → line + n ≤ lines → LinesReach size more at from apart step n len

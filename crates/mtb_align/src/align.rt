@@ -23,7 +23,7 @@ ghost use lib.Dec.{ltb};
 ghost use lib.Seq.{sets};
 ghost use Rattle.definitions.specs.Shrink.{sideAt, halvedSamples, pyramid, levelPart, nowhere, placeOf};
 ghost use Rattle.definitions.specs.Build.{build};
-ghost use Rattle.definitions.specs.Geometry.{offset, doubled, listed};
+ghost use Rattle.definitions.specs.Geometry.{offset, listed};
 ghost use Rattle.definitions.specs.Bitmap.{bitmapWords};
 ghost use Rattle.definitions.specs.Align.{log2, levels, tried, refine, stepAt, comparisonsAt, costOf, step, comparisons, stackOf, shiftOf, stepBytes, stepWords, stepNeed, stackNeed};
 ghost use Rattle.definitions.specs.Align as stacks;
@@ -285,17 +285,6 @@ struct Found {
     error: u64,
 }
 
-// A shift and a candidate, summed: both are small, so that the sum fits.
-fn near(around: Shift, candidate: Shift) -> Shift
-    requires { ⌜ Within 65536 (shiftIn around) × Within 1 (shiftIn candidate) ⌝ }
-    ensures { λ r. ⌜ shiftIn r ≡ offset (shiftIn around) (shiftIn candidate) ⌝ }
-{
-    Shift {
-        x: around.x + candidate.x,
-        y: around.y + candidate.y,
-    }
-}
-
 // The best so far, or a later shift that disagrees in fewer pixels.
 fn better(best: Found, shift: Shift, error: u64) -> Found
     ensures { λ r. ⌜ r ≡ cond (ltb error (best .error)) (record { shift = shift; error = error }) best ⌝ }
@@ -334,7 +323,7 @@ fn refine(words: &[u64], width: usize, height: usize, around: Shift) -> Step
         × (r .comparisons ≡ length (tried (costIn (now (words .entry)) width height) (shiftIn around)))
         ⌝ }
 {
-    let centre = near(around, CANDIDATES[0]);
+    let centre = added(around, CANDIDATES[0]);
     let counts = counts_at(words, width, height, centre);
     let mut best = Found {
         shift: centre,
@@ -342,7 +331,7 @@ fn refine(words: &[u64], width: usize, height: usize, around: Shift) -> Step
     };
     let mut made: u64 = 1;
     for i in 1..9 {
-        let candidate = near(around, CANDIDATES[i]);
+        let candidate = added(around, CANDIDATES[i]);
         let counts = counts_at(words, width, height, candidate);
         best = better(best, candidate, counts.disagreeing);
         made += 1;
@@ -437,17 +426,6 @@ fn side_at(side: usize, level: usize) -> usize
     ensures { λ r. ⌜ r ≡ sideAt level side ⌝ }
 {
     side >> level
-}
-
-// Twice a small shift, the same place at the next finer level.
-fn twice(shift: Shift) -> Shift
-    requires { ⌜ Within 32768 (shiftIn shift) ⌝ }
-    ensures { λ r. ⌜ shiftIn r ≡ doubled (shiftIn shift) ⌝ }
-{
-    Shift {
-        x: shift.x + shift.x,
-        y: shift.y + shift.y,
-    }
 }
 
 // The best of the nine around a shift at a level of a walk, whose two images are the frames or stand in `bytes`.
@@ -559,7 +537,7 @@ fn step_at(
         last,
     );
     let coarser_shift = coarser.shift;
-    let around = twice(coarser_shift);
+    let around = added(coarser_shift, coarser_shift);
     let found = step_around(
         reference,
         target,
@@ -675,10 +653,10 @@ fn step_fits(
     if target != width * height {
         return Outcome::Refused(Error::Length);
     }
-    if bytes < 2 * halved_samples(width, height, shrinks(width, height, bits)) {
+    if bytes < bytes_needed(width, height, bits) {
         return Outcome::Refused(Error::Scratch);
     }
-    if words < 4 * (height * words_per_row(width)) {
+    if words < words_needed(width, height) {
         return Outcome::Refused(Error::Scratch);
     }
     Outcome::Done

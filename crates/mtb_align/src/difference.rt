@@ -236,6 +236,25 @@ fn ones_of_seven(a: u64, b: u64, c: u64, d: u64, e: u64, f: u64, g: u64) -> u64
     ones_of(sums.ones) + 2 * ones_of(sums.twos) + 4 * ones_of(sums.fours)
 }
 
+// Word k of seven, `apart` from one to the next.
+fn whole_at(
+    rt: &[u64],
+    re: &[u64],
+    st: &[u64],
+    se: &[u64],
+    at: usize,
+    from: usize,
+    apart: usize,
+    k: usize,
+) -> Shown
+    requires { ⌜ Alike (now rt) (now re) (now st) (now se) × Reaches (length (now re)) 0 at from apart 7 × (k < 7) ⌝ }
+    ensures { λ r. ⌜
+        Showing (spanned 0) (now (rt .entry)) (now (re .entry)) (now (st .entry)) (now (se .entry)) (at + k * apart) (from + k * apart) (r .both) (r .odd)
+        ⌝ }
+{
+    whole_word(rt, re, st, se, at + k * apart, from + k * apart)
+}
+
 // Both counts of seven words, `apart` from one to the next.
 fn whole_seven(
     rt: &[u64],
@@ -251,13 +270,13 @@ fn whole_seven(
         Counted (runSum (spanned 0) (now (rt .entry)) (now (re .entry)) (now (st .entry)) (now (se .entry)) at from apart 7) 448 (r .compared) (r .disagreeing)
         ⌝ }
 {
-    let a = whole_word(rt, re, st, se, at, from);
-    let b = whole_word(rt, re, st, se, at + apart, from + apart);
-    let c = whole_word(rt, re, st, se, at + 2 * apart, from + 2 * apart);
-    let d = whole_word(rt, re, st, se, at + 3 * apart, from + 3 * apart);
-    let e = whole_word(rt, re, st, se, at + 4 * apart, from + 4 * apart);
-    let f = whole_word(rt, re, st, se, at + 5 * apart, from + 5 * apart);
-    let g = whole_word(rt, re, st, se, at + 6 * apart, from + 6 * apart);
+    let a = whole_at(rt, re, st, se, at, from, apart, 0);
+    let b = whole_at(rt, re, st, se, at, from, apart, 1);
+    let c = whole_at(rt, re, st, se, at, from, apart, 2);
+    let d = whole_at(rt, re, st, se, at, from, apart, 3);
+    let e = whole_at(rt, re, st, se, at, from, apart, 4);
+    let f = whole_at(rt, re, st, se, at, from, apart, 5);
+    let g = whole_at(rt, re, st, se, at, from, apart, 6);
     Counts {
         disagreeing: ones_of_seven(a.odd, b.odd, c.odd, d.odd, e.odd, f.odd, g.odd),
         compared: ones_of_seven(a.both, b.both, c.both, d.both, e.both, f.both, g.both),

@@ -23,9 +23,6 @@ held : (c : tie.After-enum-told)
     StackInOrder (a .widths .now) (a .heights .now) (a .options .percentile) (a .reference) (a .options .bits) (length (a .samples .now)) (length (a .shifts .now)) (length (a .bytes .now)) (length (a .words .now))
 held c = stack-in-order _ _ _ _ _ _ _ _ _ (passes c)
 
-stack-fits-requires : tie.Need-stack-fits-requires
-stack-fits-requires c κs = search needs
-
 enum-told : tie.Need-enum-told
 enum-told c = search needs
 
@@ -37,18 +34,6 @@ shared-slice-read-height c = let f = held (c .before .before) .frames in omega (
 
 walk-requires : tie.Need-walk-requires
 walk-requires c κs = let q = held (c .before .before .before .before .before) in (q .frames .among, ready q)
-
-enum-known-error : tie.Need-enum-known-error
-enum-known-error c = search needs
-
-same-length : tie.Need-same-length
-same-length c = search needs
-
-same-length-2 : tie.Need-same-length-2
-same-length-2 c = search needs
-
-same-length-3 : tie.Need-same-length-3
-same-length-3 c = search needs
 
 returns : tie.Need-returns
 unfolding stackOf
@@ -69,14 +54,14 @@ pub align-stack-spec : {M : Type 1} → statement M
 align-stack-spec =
     tie.close
     (tie.spec
-    stack-fits-requires
+    (λ c κs. search needs)
     enum-told
     shared-slice-read-width
     shared-slice-read-height
     walk-requires
-    enum-known-error
-    same-length
-    same-length-2
-    same-length-3
+    (λ c. search needs)
+    (λ c. search needs)
+    (λ c. search needs)
+    (λ c. search needs)
     returns
     returns-2)

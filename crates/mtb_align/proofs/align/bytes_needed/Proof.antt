@@ -11,9 +11,6 @@ use Rattle.laws.specs.Sizes.{area}
 use Rattle.mtb_align.proofs.align.bytes_needed.Statement.{statement}
 use Rattle.mtb_align.proofs.align.bytes_needed.Tie as tie
 
-shrinks-requires : tie.Need-shrinks-requires
-shrinks-requires c κs = search needs
-
 halved-samples-requires : tie.Need-halved-samples-requires
 halved-samples-requires c κs =
     let a = c .before .args in
@@ -30,4 +27,4 @@ returns c = ap (λ (n : ℕ). 2 * n) (c .halved-samples .ensures ∙ ap (halvedS
 
 pub bytes-needed-spec : {M : Type 1} → statement M
 bytes-needed-spec =
-    tie.close (tie.spec shrinks-requires halved-samples-requires mul-result returns)
+    tie.close (tie.spec (λ c κs. search needs) halved-samples-requires mul-result returns)

@@ -52,9 +52,6 @@ size c =
     let e = ap (λ (k : ℕ). a .height * k) (c .words-per-row .ensures) in
     (e, omega (arith, e, bitmap-most (a .width) (a .height) (p .wide) (p .high)), omega (arith, e, p .long))
 
-words-per-row-requires : tie.Need-words-per-row-requires
-words-per-row-requires c κs = search needs
-
 mul-n : tie.Need-mul-n
 mul-n c = let s = size c in omega arith
 
@@ -67,23 +64,11 @@ mul-third c = let s = size c in omega arith
 mul-end : tie.Need-mul-end
 mul-end c = let s = size c in omega arith
 
-sub-count : tie.Need-sub-count
-sub-count c = search needs
-
-part-count-start : tie.Need-part-count-start
-part-count-start c = search needs
-
 part-count-end : tie.Need-part-count-end
 part-count-end c = let s = size c in omega arith
 
 mul-count : tie.Need-mul-count
 mul-count c = let s = size (c .before) in omega arith
-
-sub-count-2 : tie.Need-sub-count-2
-sub-count-2 c = search needs
-
-part-count-start-2 : tie.Need-part-count-start-2
-part-count-start-2 c = search needs
 
 part-count-end-2 : tie.Need-part-count-end-2
 part-count-end-2 c = let s = size (c .before) in omega arith
@@ -91,23 +76,11 @@ part-count-end-2 c = let s = size (c .before) in omega arith
 mul-count-2 : tie.Need-mul-count-2
 mul-count-2 c = let s = size (c .before .before) in omega arith
 
-sub-count-3 : tie.Need-sub-count-3
-sub-count-3 c = search needs
-
-part-count-start-3 : tie.Need-part-count-start-3
-part-count-start-3 c = search needs
-
 part-count-end-3 : tie.Need-part-count-end-3
 part-count-end-3 c = let s = size (c .before .before) in omega arith
 
 mul-count-3 : tie.Need-mul-count-3
 mul-count-3 c = let s = size (c .before .before .before) in omega arith
-
-sub-count-4 : tie.Need-sub-count-4
-sub-count-4 c = search needs
-
-part-count-start-4 : tie.Need-part-count-start-4
-part-count-start-4 c = search needs
 
 part-count-end-4 : tie.Need-part-count-end-4
 part-count-end-4 c = let s = size (c .before .before .before) in omega arith
@@ -128,25 +101,25 @@ pub counts-at-spec : {M : Type 1} → statement M
 counts-at-spec =
     tie.close
     (tie.spec
-    words-per-row-requires
+    (λ c κs. search needs)
     mul-n
     mul-second
     mul-third
     mul-end
-    sub-count
-    part-count-start
+    (λ c. search needs)
+    (λ c. search needs)
     part-count-end
     mul-count
-    sub-count-2
-    part-count-start-2
+    (λ c. search needs)
+    (λ c. search needs)
     part-count-end-2
     mul-count-2
-    sub-count-3
-    part-count-start-3
+    (λ c. search needs)
+    (λ c. search needs)
     part-count-end-3
     mul-count-3
-    sub-count-4
-    part-count-start-4
+    (λ c. search needs)
+    (λ c. search needs)
     part-count-end-4
     count-requires
     returns)

@@ -114,12 +114,6 @@ halve-within-requires c κs =
     let q = l .inv .2 in
     (omega (arith, q .wide, side-le (l .k) (a .width)), omega (arith, q .high, side-le (l .k) (a .height)), omega arith, room (c .before))
 
-add-k : tie.Need-add-k Inv-loop μ-loop
-add-k c = omega arith
-
-loop-less : tie.Need-loop-less Inv-loop μ-loop
-loop-less c = omega arith
-
 loop-again : tie.Need-loop-again Inv-loop μ-loop
 loop-again c = (omega arith, omega arith, next-level (c .before .before .before .before .before .loop .inv .2) (c .before .before .halve-within .ensures) (room (c .before .before .before .before)))
 
@@ -141,8 +135,8 @@ fill-spec =
     mul-next
     add-next
     halve-within-requires
-    add-k
-    loop-less
+    (λ c. omega arith)
+    (λ c. omega arith)
     loop-again
     same-length
     returns-2)

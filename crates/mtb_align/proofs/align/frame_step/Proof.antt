@@ -10,48 +10,6 @@ use Rattle.mtb_align.specs.Stack.{stepBetween}
 use Rattle.mtb_align.proofs.align.frame_step.Statement.{statement}
 use Rattle.mtb_align.proofs.align.frame_step.Tie as tie
 
-mul-size : tie.Need-mul-size
-mul-size c = search needs
-
-mul-near : tie.Need-mul-near
-mul-near c = search needs
-
-add-near-end : tie.Need-add-near-end
-add-near-end c = search needs
-
-mul-at : tie.Need-mul-at
-mul-at c = search needs
-
-add-end : tie.Need-add-end
-add-end c = search needs
-
-sub-step-of : tie.Need-sub-step-of
-sub-step-of c = search needs
-
-part-step-of-start : tie.Need-part-step-of-start
-part-step-of-start c = search needs
-
-part-step-of-end : tie.Need-part-step-of-end
-part-step-of-end c = search needs
-
-sub-step-of-2 : tie.Need-sub-step-of-2
-sub-step-of-2 c = search needs
-
-part-step-of-start-2 : tie.Need-part-step-of-start-2
-part-step-of-start-2 c = search needs
-
-part-step-of-end-2 : tie.Need-part-step-of-end-2
-part-step-of-end-2 c = search needs
-
-step-of-requires : tie.Need-step-of-requires
-step-of-requires c κs = search needs
-
-same-length : tie.Need-same-length
-same-length c = search needs
-
-same-length-2 : tie.Need-same-length-2
-same-length-2 c = search needs
-
 returns : tie.Need-returns
 unfolding stepBetween
 returns c =
@@ -70,18 +28,18 @@ pub frame-step-spec : {M : Type 1} → statement M
 frame-step-spec =
     tie.close
     (tie.spec
-    mul-size
-    mul-near
-    add-near-end
-    mul-at
-    add-end
-    sub-step-of
-    part-step-of-start
-    part-step-of-end
-    sub-step-of-2
-    part-step-of-start-2
-    part-step-of-end-2
-    step-of-requires
-    same-length
-    same-length-2
+    (λ c. search needs)
+    (λ c. search needs)
+    (λ c. search needs)
+    (λ c. search needs)
+    (λ c. search needs)
+    (λ c. search needs)
+    (λ c. search needs)
+    (λ c. search needs)
+    (λ c. search needs)
+    (λ c. search needs)
+    (λ c. search needs)
+    (λ c κs. search needs)
+    (λ c. search needs)
+    (λ c. search needs)
     returns)

@@ -60,17 +60,11 @@ returns-3 : tie.Need-returns-3
 unfolding framesChecks
 returns-3 c = frames-skip tt _ _ (c .before .before .if1 .left) (frames-skip tt _ _ (c .before .if2 .left) (length-stop tt _ _ _ (c .if3 .taken)))
 
-any-over-requires : tie.Need-any-over-requires
-any-over-requires c κs = search needs
-
 returns-4 : tie.Need-returns-4
 returns-4 c =
     let d = c .before .before in
     let a = d .before .before .before .before .before .args in
     lengths d (widths-stop (a .widths .now) (a .heights .now) (a .percentile) (a .reference) (c .before .any-over .ensures ∙ ap sided (c .if4 .taken)))
-
-any-over-requires-2 : tie.Need-any-over-requires-2
-any-over-requires-2 c κs = search needs
 
 returns-5 : tie.Need-returns-5
 returns-5 c =
@@ -84,17 +78,8 @@ returns-6 c = past (c .before) (percentile-stop tt _ _ (c .if6 .taken))
 returns-7 : tie.Need-returns-7
 returns-7 c = past (c .before .before) (percentile-skip tt _ _ (c .before .if6 .left) (reference-stop tt _ _ _ (c .if7 .taken)))
 
-pairs-below-requires : tie.Need-pairs-below-requires
-pairs-below-requires c κs = search needs
-
 enum-told : tie.Need-enum-told
 enum-told c = search needs
-
-pairs-above-requires : tie.Need-pairs-above-requires
-pairs-above-requires c κs = search needs
-
-enum-known-error : tie.Need-enum-known-error
-enum-known-error c = search needs
 
 returns-8 : tie.Need-returns-8
 returns-8 c =
@@ -113,15 +98,15 @@ frames-fit-spec =
     returns
     returns-2
     returns-3
-    any-over-requires
+    (λ c κs. search needs)
     returns-4
-    any-over-requires-2
+    (λ c κs. search needs)
     returns-5
     returns-6
     returns-7
-    pairs-below-requires
+    (λ c κs. search needs)
     enum-told
-    pairs-above-requires
-    enum-known-error
+    (λ c κs. search needs)
+    (λ c. search needs)
     returns-8
     returns-9)

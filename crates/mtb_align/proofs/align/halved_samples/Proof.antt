@@ -34,12 +34,6 @@ mul-total c = omega (arith, more c)
 add-total : tie.Need-add-total Inv-loop μ-loop
 add-total c = omega (arith, more c)
 
-add-k : tie.Need-add-k Inv-loop μ-loop
-add-k c = omega arith
-
-loop-less : tie.Need-loop-less Inv-loop μ-loop
-loop-less c = omega arith
-
 loop-again : tie.Need-loop-again Inv-loop μ-loop
 loop-again c = let l = c .before .loop in (omega arith, side-more _ _ (l .inv .1), side-more _ _ (l .inv .2), more c .0)
 
@@ -49,4 +43,4 @@ returns c = let e : c .before .loop .k ≡ c .before .before .args .count = omeg
 pub halved-samples-spec : {M : Type 1} → statement M
 halved-samples-spec =
     tie.close
-    (tie.spec Inv-loop μ-loop loop-holds mul-total add-total add-k loop-less loop-again returns)
+    (tie.spec Inv-loop μ-loop loop-holds mul-total add-total (λ c. omega arith) (λ c. omega arith) loop-again returns)

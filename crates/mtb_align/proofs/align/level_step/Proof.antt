@@ -48,23 +48,11 @@ front : (c : tie.After-pack-both)
     take (handed c) (words c) ≡ fourOf (x .width) (x .height) (x .tolerance) (exposureOf (x .reference .now) (x .first)) (exposureOf (x .target .now) (x .second))
 front c = four-front _ _ _ _ _ (start c .args .words .now) (start c .pre .6) (c .pack-both .ensures) (handed c) (omega (arith, words-are (counted c)))
 
-words-per-row-requires : tie.Need-words-per-row-requires
-words-per-row-requires c κs = search needs
-
 mul-n : tie.Need-mul-n
 mul-n c = omega (arith, few c)
 
-pack-both-requires : tie.Need-pack-both-requires
-pack-both-requires c κs = search needs
-
 mul-refine : tie.Need-mul-refine
 mul-refine c = omega (arith, few (counted (c .before .before)))
-
-sub-refine : tie.Need-sub-refine
-sub-refine c = search needs
-
-part-refine-start : tie.Need-part-refine-start
-part-refine-start c = search needs
 
 part-refine-end : tie.Need-part-refine-end
 part-refine-end c =
@@ -76,9 +64,6 @@ refine-requires c κs =
     let p = c .before .before .before .before in
     let x = start p in
     (subst (λ (l : List ℕ). TwoPairs l (x .args .width) (x .args .height)) (sym (front p)) (four-pairs _ _ _ _ _ (x .pre .0) (x .pre .1)), x .pre .7)
-
-same-length : tie.Need-same-length
-same-length c = search needs
 
 returns : tie.Need-returns
 returns c =
@@ -96,13 +81,13 @@ pub level-step-spec : {M : Type 1} → statement M
 level-step-spec =
     tie.close
     (tie.spec
-    words-per-row-requires
+    (λ c κs. search needs)
     mul-n
-    pack-both-requires
+    (λ c κs. search needs)
     mul-refine
-    sub-refine
-    part-refine-start
+    (λ c. search needs)
+    (λ c. search needs)
     part-refine-end
     refine-requires
-    same-length
+    (λ c. search needs)
     returns)

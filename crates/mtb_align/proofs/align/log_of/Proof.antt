@@ -11,9 +11,6 @@ use Rattle.mtb_align.proofs.align.log_of.Tie as tie
 sub-result : tie.Need-sub-result
 sub-result c = let l = leading-top 64 (c .args .n) (omega arith) (omega arith) in omega (arith, l .1)
 
-cast-result : tie.Need-cast-result
-cast-result c = search needs
-
 returns : tie.Need-returns
 returns c =
     let l = leading-top 64 (c .args .n) (omega arith) (omega arith) in
@@ -21,4 +18,4 @@ returns c =
     j ∙ sym (log2-is (c .args .n) (l .0) (l .2) (l .3))
 
 pub log-of-spec : {M : Type 1} → statement M
-log-of-spec = tie.close (tie.spec sub-result cast-result returns)
+log-of-spec = tie.close (tie.spec sub-result (λ c. search needs) returns)

@@ -19,20 +19,8 @@ few c =
     let s = c .before .before .before .before in
     omega (arith, words-are c, bitmap-most (s .args .width) (s .args .height) (s .pre .0) (s .pre .1))
 
-words-per-row-requires : tie.Need-words-per-row-requires
-words-per-row-requires c κs = search needs
-
 mul-n : tie.Need-mul-n
 mul-n c = omega (arith, few c)
-
-cut-of-requires : tie.Need-cut-of-requires
-cut-of-requires c κs = search needs
-
-pack-at-requires : tie.Need-pack-at-requires
-pack-at-requires c κs = search needs
-
-cut-of-requires-2 : tie.Need-cut-of-requires-2
-cut-of-requires-2 c κs = search needs
 
 mul-pack-at : tie.Need-mul-pack-at
 mul-pack-at c = omega (arith, few (c .before .before .before .before .before .before .before))
@@ -42,9 +30,6 @@ pack-at-requires-2 c κs =
     let w = c .before .before .before .before .before .before .before in
     let x = w .before .before .before .before in
     (x .pre .0, x .pre .1, x .pre .5, omega (arith, words-are w, x .pre .6))
-
-same-length : tie.Need-same-length
-same-length c = search needs
 
 returns : tie.Need-returns
 returns c =
@@ -59,12 +44,12 @@ pub pack-both-spec : {M : Type 1} → statement M
 pack-both-spec =
     tie.close
     (tie.spec
-    words-per-row-requires
+    (λ c κs. search needs)
     mul-n
-    cut-of-requires
-    pack-at-requires
-    cut-of-requires-2
+    (λ c κs. search needs)
+    (λ c κs. search needs)
+    (λ c κs. search needs)
     mul-pack-at
     pack-at-requires-2
-    same-length
+    (λ c. search needs)
     returns)

@@ -13,34 +13,13 @@ Inv-loop widths heights reference k₀ k = AlikeAbove widths heights reference k
 abbrev μ-loop : tie.MeasureT-loop
 μ-loop widths heights reference k₀ k = length widths - k
 
-add-k : tie.Need-add-k Inv-loop μ-loop
-add-k c = omega arith
-
 loop-holds : tie.Need-loop-holds Inv-loop μ-loop
 loop-holds c = none-above _ _ _ (c .before .before .pre .0)
-
-sub-frames-differ : tie.Need-sub-frames-differ Inv-loop μ-loop
-sub-frames-differ c = omega arith
-
-frames-differ-requires : tie.Need-frames-differ-requires Inv-loop μ-loop
-frames-differ-requires c κs = omega arith
-
-sub-mismatch : tie.Need-sub-mismatch Inv-loop μ-loop
-sub-mismatch c = omega arith
-
-mismatch-requires : tie.Need-mismatch-requires Inv-loop μ-loop
-mismatch-requires c κs = omega arith
 
 returns : tie.Need-returns Inv-loop μ-loop
 returns c =
     let d = c .before .before in
     c .mismatch .ensures ∙ unlike-above _ _ _ _ (d .before .before .loop .inv) (d .before .loop-test .taken) (sym (d .frames-differ .ensures) ∙ c .before .if1 .taken)
-
-add-k-2 : tie.Need-add-k-2 Inv-loop μ-loop
-add-k-2 c = omega arith
-
-loop-less : tie.Need-loop-less Inv-loop μ-loop
-loop-less c = omega arith
 
 loop-again : tie.Need-loop-again Inv-loop μ-loop
 loop-again c =
@@ -56,14 +35,14 @@ pairs-above-spec =
     (tie.spec
     Inv-loop
     μ-loop
-    add-k
+    (λ c. omega arith)
     loop-holds
-    sub-frames-differ
-    frames-differ-requires
-    sub-mismatch
-    mismatch-requires
+    (λ c. omega arith)
+    (λ c κs. omega arith)
+    (λ c. omega arith)
+    (λ c κs. omega arith)
     returns
-    add-k-2
-    loop-less
+    (λ c. omega arith)
+    (λ c. omega arith)
     loop-again
     returns-2)

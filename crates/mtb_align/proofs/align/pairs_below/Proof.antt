@@ -14,28 +14,10 @@ abbrev μ-loop : tie.MeasureT-loop
 loop-holds : tie.Need-loop-holds Inv-loop μ-loop
 loop-holds c = none-below _ _ _
 
-sub-frames-differ : tie.Need-sub-frames-differ Inv-loop μ-loop
-sub-frames-differ c = omega arith
-
-frames-differ-requires : tie.Need-frames-differ-requires Inv-loop μ-loop
-frames-differ-requires c κs = omega arith
-
-sub-mismatch : tie.Need-sub-mismatch Inv-loop μ-loop
-sub-mismatch c = omega arith
-
-mismatch-requires : tie.Need-mismatch-requires Inv-loop μ-loop
-mismatch-requires c κs = omega arith
-
 returns : tie.Need-returns Inv-loop μ-loop
 returns c =
     let d = c .before .before in
     c .mismatch .ensures ∙ unlike-below _ _ _ _ (d .before .before .loop .inv) (d .before .loop-test .taken) (sym (d .frames-differ .ensures) ∙ c .before .if1 .taken)
-
-sub-k : tie.Need-sub-k Inv-loop μ-loop
-sub-k c = omega arith
-
-loop-less : tie.Need-loop-less Inv-loop μ-loop
-loop-less c = omega arith
 
 loop-again : tie.Need-loop-again Inv-loop μ-loop
 loop-again c =
@@ -52,12 +34,12 @@ pairs-below-spec =
     Inv-loop
     μ-loop
     loop-holds
-    sub-frames-differ
-    frames-differ-requires
-    sub-mismatch
-    mismatch-requires
+    (λ c. omega arith)
+    (λ c κs. omega arith)
+    (λ c. omega arith)
+    (λ c κs. omega arith)
     returns
-    sub-k
-    loop-less
+    (λ c. omega arith)
+    (λ c. omega arith)
     loop-again
     returns-2)

@@ -14,31 +14,10 @@ use Rattle.definitions.specs.Geometry.{listed}
 use Rattle.mtb_align.proofs.align.put_shift.Statement.{statement}
 use Rattle.mtb_align.proofs.align.put_shift.Tie as tie
 
-mul-x : tie.Need-mul-x
-mul-x c = search needs
-
-mul-x-2 : tie.Need-mul-x-2
-mul-x-2 c = search needs
-
-slice-set-from-x : tie.Need-slice-set-from-x
-slice-set-from-x c = search needs
-
-mul-y : tie.Need-mul-y
-mul-y c = search needs
-
-add-y : tie.Need-add-y
-add-y c = search needs
-
-mul-y-2 : tie.Need-mul-y-2
-mul-y-2 c = search needs
-
 slice-set-from-y : tie.Need-slice-set-from-y
 slice-set-from-y c =
     let a = c .before .before .args in
     lt-length-set (a .shifts .now) (2 * a .k) _ (omega arith)
-
-same-length : tie.Need-same-length
-same-length c = search needs
 
 returns : tie.Need-returns
 unfolding listed
@@ -53,12 +32,12 @@ pub put-shift-spec : {M : Type 1} → statement M
 put-shift-spec =
     tie.close
     (tie.spec
-    mul-x
-    mul-x-2
-    slice-set-from-x
-    mul-y
-    add-y
-    mul-y-2
+    (λ c. search needs)
+    (λ c. search needs)
+    (λ c. search needs)
+    (λ c. search needs)
+    (λ c. search needs)
+    (λ c. search needs)
     slice-set-from-y
-    same-length
+    (λ c. search needs)
     returns)

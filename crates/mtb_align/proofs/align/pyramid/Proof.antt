@@ -36,9 +36,6 @@ held : (c : tie.After-enum-told)
     InOrder (a .width) (a .height) (length (a .samples .now)) (a .bits) (length (a .scratch .now))
 held c = in-order _ _ _ _ _ (passes c)
 
-pyramid-fits-requires : tie.Need-pyramid-fits-requires
-pyramid-fits-requires c κs = search needs
-
 enum-told : tie.Need-enum-told
 enum-told c = search needs
 
@@ -52,12 +49,6 @@ fill-requires c κs =
     let n = c .before .shrinks .ensures in
     (f .wide, f .high, omega (arith, n, levels-most (a .width) (a .height) (a .bits) (f .wide) (f .high)), f .whole, omega (arith, f .room, ap (halvedSamples (a .width) (a .height)) n))
 
-enum-known-error : tie.Need-enum-known-error
-enum-known-error c = search needs
-
-same-length : tie.Need-same-length
-same-length c = search needs
-
 returns : tie.Need-returns
 returns c =
     let b = c .before .before .before .before .before in
@@ -70,11 +61,11 @@ pub pyramid-spec : {M : Type 1} → statement M
 pyramid-spec =
     tie.close
     (tie.spec
-    pyramid-fits-requires
+    (λ c κs. search needs)
     enum-told
     shrinks-requires
     fill-requires
-    enum-known-error
-    same-length
+    (λ c. search needs)
+    (λ c. search needs)
     returns
     returns-2)

@@ -22,9 +22,6 @@ need : (c : tie.After-halved-samples)
     c .halved-samples .result ≡ halvedSamples (a .width) (a .height) (levels (a .width) (a .height) (a .bits))
 need c = c .halved-samples .ensures ∙ ap (halvedSamples _ _) (c .before .shrinks .ensures)
 
-side-over-requires : tie.Need-side-over-requires
-side-over-requires c κs = search needs
-
 returns : tie.Need-returns
 unfolding pyramidChecks
 returns c = sides-stop tt _ _ _ (sym (c .before .side-over .ensures) ∙ c .if1 .taken)
@@ -60,7 +57,7 @@ pub pyramid-fits-spec : {M : Type 1} → statement M
 pyramid-fits-spec =
     tie.close
     (tie.spec
-    side-over-requires
+    (λ c κs. search needs)
     returns
     mul-if2
     returns-2

@@ -4,6 +4,7 @@ use Prim.Native.Nat.{ℕ, _-_, _≤_}
 use borrow.Author.Needs.{needs}
 use native.Mathlib.Omega.{arith}
 use Rattle.laws.specs.Least.{tried-nine}
+use Rattle.laws.specs.Steps.{within-wider}
 use Rattle.definitions.specs.Difference.{Counts}
 use Rattle.mtb_align.specs.Answers.{shiftIn}
 use Rattle.mtb_align.specs.Search.{costIn}
@@ -21,42 +22,21 @@ Inv-loop words width height around best₀ made₀ i₀ best made i = (1 ≤ i) 
 abbrev μ-loop : tie.MeasureT-loop
 μ-loop words width height around best₀ made₀ i₀ best made i = 9 - i
 
-array-copy-out-near : tie.Need-array-copy-out-near Inv-loop μ-loop
-array-copy-out-near c = search needs
-
-near-requires : tie.Need-near-requires Inv-loop μ-loop
-near-requires c κs = (c .before .before .pre .1, candidate-within 0)
+added-requires : tie.Need-added-requires Inv-loop μ-loop
+added-requires c κs = (within-wider (omega arith) (c .before .before .pre .1), within-wider (omega arith) (candidate-within 0))
 
 counts-at-requires : tie.Need-counts-at-requires Inv-loop μ-loop
 counts-at-requires c κs = let p = c .before .before .before .pre in p .0
 
 loop-holds : tie.Need-loop-holds Inv-loop μ-loop
 unfolding costIn
-loop-holds c = (omega arith, omega arith, refl, first _ _ (c .before .near .ensures) (ap errorOf (c .counts-at .ensures)))
+loop-holds c = (omega arith, omega arith, refl, first _ _ (c .before .added .ensures) (ap errorOf (c .counts-at .ensures)))
 
-mul-near : tie.Need-mul-near Inv-loop μ-loop
-mul-near c = search needs
-
-array-copy-out-near-2 : tie.Need-array-copy-out-near-2 Inv-loop μ-loop
-array-copy-out-near-2 c = search needs
-
-near-requires-2 : tie.Need-near-requires-2 Inv-loop μ-loop
-near-requires-2 c κs = (c .before .before .before .before .before .before .before .pre .1, candidate-within (c .before .before .loop .i))
+added-requires-2 : tie.Need-added-requires-2 Inv-loop μ-loop
+added-requires-2 c κs = (within-wider (omega arith) (c .before .before .before .before .before .before .before .pre .1), within-wider (omega arith) (candidate-within (c .before .before .loop .i)))
 
 counts-at-requires-2 : tie.Need-counts-at-requires-2 Inv-loop μ-loop
 counts-at-requires-2 c κs = let p = c .before .before .before .before .before .before .before .before .pre in p .0
-
-better-requires : tie.Need-better-requires Inv-loop μ-loop
-better-requires c κs = search needs
-
-add-made : tie.Need-add-made Inv-loop μ-loop
-add-made c = search needs
-
-add-i : tie.Need-add-i Inv-loop μ-loop
-add-i c = search needs
-
-loop-less : tie.Need-loop-less Inv-loop μ-loop
-loop-less c = search needs
 
 loop-again : tie.Need-loop-again Inv-loop μ-loop
 unfolding costIn
@@ -65,7 +45,7 @@ loop-again c =
       omega arith,
       omega arith,
       omega arith,
-      rw (c .better .ensures) (next (l .inv .3) (omega arith) _ _ (c .before .before .near2 .ensures) (ap errorOf (c .before .counts-at2 .ensures))),
+      rw (c .better .ensures) (next (l .inv .3) (omega arith) _ _ (c .before .before .added2 .ensures) (ap errorOf (c .before .counts-at2 .ensures))),
     )
 
 returns : tie.Need-returns Inv-loop μ-loop
@@ -80,17 +60,17 @@ refine-spec =
     (tie.spec
     Inv-loop
     μ-loop
-    array-copy-out-near
-    near-requires
+    (λ c. search needs)
+    added-requires
     counts-at-requires
     loop-holds
-    mul-near
-    array-copy-out-near-2
-    near-requires-2
+    (λ c. search needs)
+    (λ c. search needs)
+    added-requires-2
     counts-at-requires-2
-    better-requires
-    add-made
-    add-i
-    loop-less
+    (λ c κs. search needs)
+    (λ c. search needs)
+    (λ c. search needs)
+    (λ c. search needs)
     loop-again
     returns)

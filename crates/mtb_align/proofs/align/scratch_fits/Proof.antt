@@ -22,15 +22,9 @@ returns c =
     let a = c .before .args in
     scratch-skip tt _ _ _ (omega (arith, need-one (a .n) (stepBytes (a .width) (a .height) (a .bits)) (c .if1 .taken))) (scratch-skip tt _ _ _ (omega (arith, need-one (a .n) (stepWords (a .width) (a .height)) (c .if1 .taken))) (done tt))
 
-bytes-needed-requires : tie.Need-bytes-needed-requires
-bytes-needed-requires c κs = search needs
-
 returns-2 : tie.Need-returns-2
 unfolding stackScratchChecks
 returns-2 c = scratch-stop tt _ _ _ (omega (arith, bytes-are (c .before), c .if2 .taken))
-
-words-needed-requires : tie.Need-words-needed-requires
-words-needed-requires c κs = search needs
 
 returns-3 : tie.Need-returns-3
 unfolding stackScratchChecks
@@ -47,4 +41,4 @@ returns-4 c =
 pub scratch-fits-spec : {M : Type 1} → statement M
 scratch-fits-spec =
     tie.close
-    (tie.spec returns bytes-needed-requires returns-2 words-needed-requires returns-3 returns-4)
+    (tie.spec returns (λ c κs. search needs) returns-2 (λ c κs. search needs) returns-3 returns-4)

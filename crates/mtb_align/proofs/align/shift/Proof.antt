@@ -20,9 +20,6 @@ checks c =
 passes : (c : tie.After-enum-told) → accepted (tt {0}) ≡ answer (checks (c .before .before .before .before .before .before .before)) tt
 passes c = ap outcome (sym (c .enum-told .given .1)) ∙ c .before .before .step-fits .ensures
 
-step-fits-requires : tie.Need-step-fits-requires
-step-fits-requires c κs = search needs
-
 enum-told : tie.Need-enum-told
 enum-told c = search needs
 
@@ -30,15 +27,6 @@ step-of-requires : tie.Need-step-of-requires
 step-of-requires c κs =
     let f = step-in-order _ _ _ _ _ _ _ _ _ _ (passes (c .before .before)) in
     (f .wide, f .high, f .cut, f .cut, f .reference-whole, f .target-whole, f .room, f .space)
-
-enum-known-error : tie.Need-enum-known-error
-enum-known-error c = search needs
-
-same-length : tie.Need-same-length
-same-length c = search needs
-
-same-length-2 : tie.Need-same-length-2
-same-length-2 c = search needs
 
 returns : tie.Need-returns
 returns c =
@@ -59,11 +47,11 @@ pub shift-spec : {M : Type 1} → statement M
 shift-spec =
     tie.close
     (tie.spec
-    step-fits-requires
+    (λ c κs. search needs)
     enum-told
     step-of-requires
-    enum-known-error
-    same-length
-    same-length-2
+    (λ c. search needs)
+    (λ c. search needs)
+    (λ c. search needs)
     returns
     returns-2)

@@ -7,32 +7,8 @@ use Rattle.laws.specs.Levels.{levels-some, levels-none}
 use Rattle.mtb_align.proofs.align.shrinks.Statement.{statement}
 use Rattle.mtb_align.proofs.align.shrinks.Tie as tie
 
-smaller-requires : tie.Need-smaller-requires
-smaller-requires c κs = search needs
-
 returns : tie.Need-returns
 returns c = sym (levels-none _ _ _ (sym (c .before .smaller .ensures) ∙ c .if1 .taken))
-
-larger-requires : tie.Need-larger-requires
-larger-requires c κs = search needs
-
-log-of-requires : tie.Need-log-of-requires
-log-of-requires c κs = search needs
-
-less-one-requires : tie.Need-less-one-requires
-less-one-requires c κs = search needs
-
-log-of-requires-2 : tie.Need-log-of-requires-2
-log-of-requires-2 c κs = search needs
-
-smaller-requires-2 : tie.Need-smaller-requires-2
-smaller-requires-2 c κs = search needs
-
-less-one-requires-2 : tie.Need-less-one-requires-2
-less-one-requires-2 c κs = search needs
-
-smaller-requires-3 : tie.Need-smaller-requires-3
-smaller-requires-3 c κs = search needs
 
 returns-2 : tie.Need-returns-2
 returns-2 c =
@@ -45,13 +21,13 @@ pub shrinks-spec : {M : Type 1} → statement M
 shrinks-spec =
     tie.close
     (tie.spec
-    smaller-requires
+    (λ c κs. search needs)
     returns
-    larger-requires
-    log-of-requires
-    less-one-requires
-    log-of-requires-2
-    smaller-requires-2
-    less-one-requires-2
-    smaller-requires-3
+    (λ c κs. search needs)
+    (λ c κs. search needs)
+    (λ c κs. search needs)
+    (λ c κs. search needs)
+    (λ c κs. search needs)
+    (λ c κs. search needs)
+    (λ c κs. search needs)
     returns-2)

@@ -34,9 +34,6 @@ whole c =
     let size = area _ _ (f .wide) (f .high) in
     (size, mul-le-mul (f .few) size)
 
-frames-fit-requires : tie.Need-frames-fit-requires
-frames-fit-requires c κs = search needs
-
 enum-told : tie.Need-enum-told
 enum-told c = search needs
 
@@ -56,18 +53,12 @@ returns : tie.Need-returns
 unfolding stackChecks
 returns c = skip-all tt (framesChecks _ _ _ _) _ (sym (passes (c .before .before .before))) (length-stop tt _ _ _ (c .if1 .taken))
 
-mul-if2 : tie.Need-mul-if2
-mul-if2 c = search needs
-
 returns-2 : tie.Need-returns-2
 unfolding stackChecks
 returns-2 c = skip-all tt (framesChecks _ _ _ _) _ (sym (passes (c .before .before .before .before))) (length-skip tt _ _ _ (c .before .if1 .left) (length-stop tt _ _ _ (c .if2 .taken)))
 
 scratch-fits-requires : tie.Need-scratch-fits-requires
 scratch-fits-requires c κs = let f = held (c .before .before .before .before) in (f .wide, f .high)
-
-enum-known-error : tie.Need-enum-known-error
-enum-known-error c = search needs
 
 returns-3 : tie.Need-returns-3
 unfolding stackChecks
@@ -83,16 +74,16 @@ pub stack-fits-spec : {M : Type 1} → statement M
 stack-fits-spec =
     tie.close
     (tie.spec
-    frames-fit-requires
+    (λ c κs. search needs)
     enum-told
     shared-slice-read-width
     shared-slice-read-height
     mul-if1
     mul-if1-2
     returns
-    mul-if2
+    (λ c. search needs)
     returns-2
     scratch-fits-requires
-    enum-known-error
+    (λ c. search needs)
     returns-3
     returns-4)

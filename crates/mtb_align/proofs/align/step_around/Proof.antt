@@ -39,23 +39,8 @@ parts c =
 level-step-requires : tie.Need-level-step-requires
 level-step-requires c κs = let p = c .before .before .before .before .before .before .pre in asks (frames (c .before)) (p .0) (p .1 .1)
 
-same-length : tie.Need-same-length
-same-length c = search needs
-
 returns : tie.Need-returns
 returns c = let e = c .before .before .level-step .ensures in gives (frames (c .before .before .before .before)) _ (e .0) (e .1)
-
-sub-halved-samples : tie.Need-sub-halved-samples
-sub-halved-samples c = search needs
-
-halved-samples-requires : tie.Need-halved-samples-requires
-halved-samples-requires c κs = search needs
-
-halved-samples-requires-2 : tie.Need-halved-samples-requires-2
-halved-samples-requires-2 c κs = search needs
-
-halved-samples-requires-3 : tie.Need-halved-samples-requires-3
-halved-samples-requires-3 c κs = search needs
 
 add-behind : tie.Need-add-behind
 add-behind c = let b = found c in omega arith
@@ -81,17 +66,8 @@ part-level-step-start-2 c = let b = found (c .before) in omega arith
 part-level-step-end-2 : tie.Need-part-level-step-end-2
 part-level-step-end-2 c = let b = found (c .before) in omega arith
 
-side-at-requires : tie.Need-side-at-requires
-side-at-requires c κs = search needs
-
-side-at-requires-2 : tie.Need-side-at-requires-2
-side-at-requires-2 c κs = search needs
-
 level-step-requires-2 : tie.Need-level-step-requires-2
 level-step-requires-2 c κs = let p = c .before .before .before .before .before .before .before .before .before .before .before .before .before .pre in asks (parts (c .before)) (p .0) (p .1 .1)
-
-same-length-2 : tie.Need-same-length-2
-same-length-2 c = search needs
 
 returns-2 : tie.Need-returns-2
 returns-2 c = let e = c .before .before .level-step2 .ensures in gives (parts (c .before .before .before .before)) _ (e .0) (e .1)
@@ -101,12 +77,12 @@ step-around-spec =
     tie.close
     (tie.spec
     level-step-requires
-    same-length
+    (λ c. search needs)
     returns
-    sub-halved-samples
-    halved-samples-requires
-    halved-samples-requires-2
-    halved-samples-requires-3
+    (λ c. search needs)
+    (λ c κs. search needs)
+    (λ c κs. search needs)
+    (λ c κs. search needs)
     add-behind
     add-behind-end
     sub-level-step
@@ -115,8 +91,8 @@ step-around-spec =
     sub-level-step-2
     part-level-step-start-2
     part-level-step-end-2
-    side-at-requires
-    side-at-requires-2
+    (λ c κs. search needs)
+    (λ c κs. search needs)
     level-step-requires-2
-    same-length-2
+    (λ c. search needs)
     returns-2)

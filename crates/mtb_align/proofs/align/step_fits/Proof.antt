@@ -1,17 +1,12 @@
 -- `mtb_align::align::step_fits` meets its contract. Assumes nothing.
-use mathlib.Core.Path.{_≡_, sym, ap, _∙_}
+use mathlib.Core.Path.{_≡_, sym, _∙_}
 use mathlib.Core.List.{List, _∷_}
-use Prim.Native.Nat.{ℕ, _*_, _≤_}
+use Prim.Native.Nat.{_*_, _≤_}
 use borrow.Author.Needs.{needs}
 use native.Mathlib.Omega.{arith}
-use Rattle.definitions.specs.Shrink.{halvedSamples}
-use Rattle.definitions.specs.Align.{stepBytes, stepWords}
 use Rattle.definitions.specs.Refusals.{Check, Answer, answer, sideOver, percentileOver, sizesDiffer, wrongLength, stepChecks}
-use Rattle.laws.specs.Bitmaps.{bitmap-most}
 use Rattle.laws.specs.Checks.{sides-within, sides-stop, sides-skip, percentile-stop, percentile-skip, length-stop, length-skip, scratch-stop, scratch-skip, done}
 use Rattle.laws.specs.ChecksStep.{sizes-stop, sizes-skip}
-use Rattle.laws.specs.Levels.{levels-most}
-use Rattle.laws.specs.Pyramids.{halved-third}
 use Rattle.laws.specs.Sizes.{area}
 use Rattle.mtb_align.proofs.align.step_fits.Statement.{statement}
 use Rattle.mtb_align.proofs.align.step_fits.Tie as tie
@@ -40,29 +35,9 @@ past-lengths : (c : tie.Else6) (l : List Check) {r : Answer (Unit {0})}
     ∷ wrongLength (a .reference) (a .width * a .height) ∷ wrongLength (a .target) (a .width * a .height) ∷ l) tt
 past-lengths c l q = past-sizes (c .before .before) _ (length-skip tt _ _ _ (c .before .if5 .left) (length-skip tt _ _ _ (c .if6 .left) q))
 
--- what the code takes for the needs
-bytes-need : (c : tie.After-halved-samples) → let a = c .before .before .before .before .before .before .before .before .before .before .before .args in 2 * c .halved-samples .result ≡ stepBytes (a .width) (a .height) (a .bits)
-unfolding stepBytes
-bytes-need c = ap (λ (n : ℕ). 2 * n) (c .halved-samples .ensures ∙ ap (halvedSamples _ _) (c .before .shrinks .ensures))
-
-words-need : (c : tie.After-words-per-row) → let a = c .before .before .before .before .before .before .before .before .before .before .before .before .before .args in 4 * (a .height * c .words-per-row .result) ≡ stepWords (a .width) (a .height)
-unfolding stepWords
-words-need c = ap (λ (n : ℕ). 4 * (c .before .before .before .before .before .before .before .before .before .before .before .before .before .args .height * n)) (c .words-per-row .ensures)
-
-words-most : (c : tie.After-words-per-row) → let a = c .before .before .before .before .before .before .before .before .before .before .before .before .before .args in a .height * c .words-per-row .result ≤ 1048576
-words-most c =
-    let s = within (c .before .before .before .before .before .before .before .before .before .before .before) in
-    omega (arith, bitmap-most _ _ (s .0) (s .1), ap (λ (n : ℕ). c .before .before .before .before .before .before .before .before .before .before .before .before .before .args .height * n) (c .words-per-row .ensures))
-
-side-over-requires : tie.Need-side-over-requires
-side-over-requires c κs = search needs
-
 returns : tie.Need-returns
 unfolding stepChecks
 returns c = sides-stop tt _ _ _ (sym (c .before .side-over .ensures) ∙ c .if1 .taken)
-
-side-over-requires-2 : tie.Need-side-over-requires-2
-side-over-requires-2 c κs = search needs
 
 returns-2 : tie.Need-returns-2
 unfolding stepChecks
@@ -71,9 +46,6 @@ returns-2 c = sides-skip tt _ _ _ (within (c .before .before)) (sides-stop tt _ 
 returns-3 : tie.Need-returns-3
 unfolding stepChecks
 returns-3 c = past-sides (c .before) _ (percentile-stop tt _ _ (c .if3 .taken))
-
-sizes-differ-requires : tie.Need-sizes-differ-requires
-sizes-differ-requires c κs = search needs
 
 returns-4 : tie.Need-returns-4
 unfolding stepChecks
@@ -86,69 +58,49 @@ returns-5 : tie.Need-returns-5
 unfolding stepChecks
 returns-5 c = past-sizes (c .before) _ (length-stop tt _ _ _ (c .if5 .taken))
 
-mul-if6 : tie.Need-mul-if6
-mul-if6 c = search needs
-
 returns-6 : tie.Need-returns-6
 unfolding stepChecks
 returns-6 c = past-sizes (c .before .before) _ (length-skip tt _ _ _ (c .before .if5 .left) (length-stop tt _ _ _ (c .if6 .taken)))
 
-shrinks-requires : tie.Need-shrinks-requires
-shrinks-requires c κs = within (c .before .before .before .before .before .before .before)
-
-halved-samples-requires : tie.Need-halved-samples-requires
-halved-samples-requires c κs =
-    let s = within (c .before .before .before .before .before .before .before .before) in
-    (s .0, s .1, omega (arith, c .shrinks .ensures, levels-most _ _ (c .before .before .before .before .before .before .before .before .before .before .args .bits) (s .0) (s .1)))
-
-mul-if7 : tie.Need-mul-if7
-mul-if7 c =
-    let s = within (c .before .before .before .before .before .before .before .before .before) in
-    let a = c .before .before .before .before .before .before .before .before .before .before .before .args in
-    omega (arith, c .halved-samples .ensures, halved-third (a .width) (a .height) (c .before .shrinks .result), area _ _ (s .0) (s .1))
+bytes-needed-requires : tie.Need-bytes-needed-requires
+bytes-needed-requires c κs = within (c .before .before .before .before .before .before .before)
 
 returns-7 : tie.Need-returns-7
 unfolding stepChecks
-returns-7 c = past-lengths (c .before .before .before) _ (scratch-stop tt _ _ _ (omega (arith, bytes-need (c .before), c .if7 .taken)))
+returns-7 c = past-lengths (c .before .before) _ (scratch-stop tt _ _ _ (omega (arith, c .before .bytes-needed .ensures, c .if7 .taken)))
 
-words-per-row-requires : tie.Need-words-per-row-requires
-words-per-row-requires c κs = within (c .before .before .before .before .before .before .before .before .before .before) .0
-
-mul-if8 : tie.Need-mul-if8
-mul-if8 c = omega (arith, words-most c)
-
-mul-if8-2 : tie.Need-mul-if8-2
-mul-if8-2 c = omega (arith, words-most c)
+words-needed-requires : tie.Need-words-needed-requires
+words-needed-requires c κs = within (c .before .before .before .before .before .before .before .before .before)
 
 returns-8 : tie.Need-returns-8
 unfolding stepChecks
-returns-8 c = past-lengths (c .before .before .before .before .before) _ (scratch-skip tt _ _ _ (omega (arith, bytes-need (c .before .before .before), c .before .before .if7 .left)) (scratch-stop tt _ _ _ (omega (arith, words-need (c .before), c .if8 .taken))))
+returns-8 c =
+    let b = c .before .before in
+    past-lengths (b .before .before) _ (scratch-skip tt _ _ _ (omega (arith, b .before .bytes-needed .ensures, b .if7 .left)) (scratch-stop tt _ _ _ (omega (arith, c .before .words-needed .ensures, c .if8 .taken))))
 
 returns-9 : tie.Need-returns-9
 unfolding stepChecks
-returns-9 c = past-lengths (c .before .before .before .before .before) _ (scratch-skip tt _ _ _ (omega (arith, bytes-need (c .before .before .before), c .before .before .if7 .left)) (scratch-skip tt _ _ _ (omega (arith, words-need (c .before), c .if8 .left)) (done tt)))
+returns-9 c =
+    let b = c .before .before in
+    past-lengths (b .before .before) _ (scratch-skip tt _ _ _ (omega (arith, b .before .bytes-needed .ensures, b .if7 .left)) (scratch-skip tt _ _ _ (omega (arith, c .before .words-needed .ensures, c .if8 .left)) (done tt)))
 
 pub step-fits-spec : {M : Type 1} → statement M
 step-fits-spec =
     tie.close
     (tie.spec
-    side-over-requires
+    (λ c κs. search needs)
     returns
-    side-over-requires-2
+    (λ c κs. search needs)
     returns-2
     returns-3
-    sizes-differ-requires
+    (λ c κs. search needs)
     returns-4
     mul-if5
     returns-5
-    mul-if6
+    (λ c. search needs)
     returns-6
-    shrinks-requires
-    halved-samples-requires
-    mul-if7
+    bytes-needed-requires
     returns-7
-    words-per-row-requires
-    mul-if8
-    mul-if8-2
+    words-needed-requires
     returns-8
     returns-9)

@@ -50,9 +50,6 @@ both c =
     both-stored mode (a .width) (a .height) n (a .reference .now) (a .target .now) (a .bytes .now) (room (c .before .before .before .before .before .before .before)) (c .before .before .before .before .fill .ensures)
     (c .fill2 .ensures ∙ ap (λ (at : ℕ). sets (c .before .before .before .before .fill .last .1 .1 .1 .1 .1 .0) at (pyramid mode (a .width) (a .height) (a .target .now) n)) (c .before .before .before .before .before .before .halved-samples .ensures))
 
-shrinks-requires : tie.Need-shrinks-requires
-shrinks-requires c κs = search needs
-
 halved-samples-requires : tie.Need-halved-samples-requires
 halved-samples-requires c κs = let p = c .before .before .before .before .before .pre in (p .0, p .1, few c)
 
@@ -89,12 +86,6 @@ step-at-requires c κs =
       omega arith,
     )
 
-same-length : tie.Need-same-length
-same-length c = search needs
-
-same-length-2 : tie.Need-same-length-2
-same-length-2 c = search needs
-
 returns : tie.Need-returns
 returns c =
     let a = c .before .before .before .before .before .before .before .before .before .before .before .before .before .before .before .before .before .before .before .args in
@@ -111,11 +102,11 @@ pub step-of-spec : {M : Type 1} → statement M
 step-of-spec =
     tie.close
     (tie.spec
-    shrinks-requires
+    (λ c κs. search needs)
     halved-samples-requires
     fill-requires
     fill-requires-2
     step-at-requires
-    same-length
-    same-length-2
+    (λ c. search needs)
+    (λ c. search needs)
     returns)

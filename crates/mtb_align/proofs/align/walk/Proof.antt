@@ -8,21 +8,6 @@ use Rattle.mtb_align.proofs.align.walk.Tie as tie
 walk-below-requires : tie.Need-walk-below-requires
 walk-below-requires c κs = let s = c .before .before .before .before .before .before in ready-less (omega (arith, s .pre .0)) (s .pre .1)
 
-put-shift-requires : tie.Need-put-shift-requires
-put-shift-requires c κs = search needs
-
-walk-above-requires : tie.Need-walk-above-requires
-walk-above-requires c κs = search needs
-
-same-length : tie.Need-same-length
-same-length c = search needs
-
-same-length-2 : tie.Need-same-length-2
-same-length-2 c = search needs
-
-same-length-3 : tie.Need-same-length-3
-same-length-3 c = search needs
-
 returns : tie.Need-returns
 returns c =
     let up = c .before .before .before .before .before in
@@ -38,9 +23,9 @@ walk-spec =
     tie.close
     (tie.spec
     walk-below-requires
-    put-shift-requires
-    walk-above-requires
-    same-length
-    same-length-2
-    same-length-3
+    (λ c κs. search needs)
+    (λ c κs. search needs)
+    (λ c. search needs)
+    (λ c. search needs)
+    (λ c. search needs)
     returns)

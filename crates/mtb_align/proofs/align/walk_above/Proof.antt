@@ -14,9 +14,6 @@ abbrev μ-loop : tie.MeasureT-loop
 μ-loop samples width height reference n options shifts₀ bytes₀ words₀ s₀ k₀ shifts bytes words s k =
     n - k
 
-add-k : tie.Need-add-k Inv-loop μ-loop
-add-k c = omega arith
-
 loop-holds : tie.Need-loop-holds Inv-loop μ-loop
 loop-holds c = above-none _ (c .before .before .before .pre .0) refl
 
@@ -71,7 +68,7 @@ walk-above-spec =
     (tie.spec
     Inv-loop
     μ-loop
-    add-k
+    (λ c. omega arith)
     loop-holds
     sub-frame-step
     frame-step-requires

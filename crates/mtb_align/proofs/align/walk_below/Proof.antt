@@ -16,9 +16,6 @@ abbrev μ-loop : tie.MeasureT-loop
 loop-holds : tie.Need-loop-holds Inv-loop μ-loop
 loop-holds c = below-none _ refl
 
-sub-frame-step : tie.Need-sub-frame-step Inv-loop μ-loop
-sub-frame-step c = omega arith
-
 frame-step-requires : tie.Need-frame-step-requires Inv-loop μ-loop
 frame-step-requires c κs =
     let l = c .before .before .before .loop in
@@ -30,9 +27,6 @@ added-requires c κs =
     let l = c .before .before .before .before .before .before .before .before .loop in
     let r = c .before .before .before .before .before .before .before .before .before .before .before .before .pre in
     (below-near (l .inv) (r .wide) (r .high) (r .few), step-near _ _ _ _ _ _ _ (r .wide) (r .high) (c .before .before .before .before .frame-step .ensures .0))
-
-sub-k : tie.Need-sub-k Inv-loop μ-loop
-sub-k c = omega arith
 
 put-shift-requires : tie.Need-put-shift-requires Inv-loop μ-loop
 put-shift-requires c κs =
@@ -68,10 +62,10 @@ walk-below-spec =
     Inv-loop
     μ-loop
     loop-holds
-    sub-frame-step
+    (λ c. omega arith)
     frame-step-requires
     added-requires
-    sub-k
+    (λ c. omega arith)
     put-shift-requires
     loop-less
     loop-again

@@ -14,9 +14,6 @@ few : (c : tie.After-words-per-row) → c .before .args .height * c .words-per-r
 unfolding wordsPerRow
 few c = mul-le-mul {m₂ = 128} (c .before .pre .1) (omega (arith, c .words-per-row .ensures, c .before .pre .0))
 
-words-per-row-requires : tie.Need-words-per-row-requires
-words-per-row-requires c κs = search needs
-
 mul-result : tie.Need-mul-result
 mul-result c = omega (arith, few c)
 
@@ -28,4 +25,4 @@ unfolding stepWords
 returns c = ap (λ (n : ℕ). 4 * (c .before .args .height * n)) (c .words-per-row .ensures)
 
 pub words-needed-spec : {M : Type 1} → statement M
-words-needed-spec = tie.close (tie.spec words-per-row-requires mul-result mul-result-2 returns)
+words-needed-spec = tie.close (tie.spec (λ c κs. search needs) mul-result mul-result-2 returns)

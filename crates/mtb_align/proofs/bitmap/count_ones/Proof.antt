@@ -12,9 +12,6 @@ use Rattle.mtb_align.proofs.Pixels.{few, long-stop, long-skip}
 use Rattle.mtb_align.proofs.bitmap.count_ones.Statement.{statement}
 use Rattle.mtb_align.proofs.bitmap.count_ones.Tie as tie
 
-side-over-requires : tie.Need-side-over-requires
-side-over-requires c κs = search needs
-
 returns : tie.Need-returns
 unfolding totalChecks
 returns c = sides-stop _ _ _ _ (sym (c .before .side-over .ensures) ∙ c .if1 .taken)
@@ -70,7 +67,7 @@ pub count-ones-spec : {M : Type 1} → statement M
 count-ones-spec =
     tie.close
     (tie.spec
-    side-over-requires
+    (λ c κs. search needs)
     returns
     words-per-row-requires
     mul-if2

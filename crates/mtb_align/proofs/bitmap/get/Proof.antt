@@ -13,9 +13,6 @@ use Rattle.mtb_align.proofs.Pixels.{few, inside, long-stop, column-stop
 use Rattle.mtb_align.proofs.bitmap.get.Statement.{statement}
 use Rattle.mtb_align.proofs.bitmap.get.Tie as tie
 
-side-over-requires : tie.Need-side-over-requires
-side-over-requires c κs = search needs
-
 returns : tie.Need-returns
 unfolding pixelChecks
 returns c = sides-stop _ _ _ _ (sym (c .before .side-over .ensures) ∙ c .if1 .taken)
@@ -67,9 +64,6 @@ mul-t16 c = omega (arith, read-inside c)
 shared-slice-read-t18 : tie.Need-shared-slice-read-t18
 shared-slice-read-t18 c = omega (arith, read-inside (c .before), c .before .before .before .if2 .left)
 
-shr-t21 : tie.Need-shr-t21
-shr-t21 c = search needs
-
 returns-5 : tie.Need-returns-5
 unfolding bitAt
 returns-5 c =
@@ -85,7 +79,7 @@ pub get-spec : {M : Type 1} → statement M
 get-spec =
     tie.close
     (tie.spec
-    side-over-requires
+    (λ c κs. search needs)
     returns
     words-per-row-requires
     mul-if2
@@ -96,5 +90,5 @@ get-spec =
     add-t15
     mul-t16
     shared-slice-read-t18
-    shr-t21
+    (λ c. search needs)
     returns-5)

@@ -38,23 +38,11 @@ loop-holds c = (omega arith, sym (sum-none _), omega arith)
 ones-of-fifteen-requires : tie.Need-ones-of-fifteen-requires Inv-loop μ-loop Inv-loop2 μ-loop2
 ones-of-fifteen-requires c κs = (omega arith, omega arith)
 
-add-set : tie.Need-add-set Inv-loop μ-loop Inv-loop2 μ-loop2
-add-set c = omega arith
-
-add-at : tie.Need-add-at Inv-loop μ-loop Inv-loop2 μ-loop2
-add-at c = omega arith
-
-loop-less : tie.Need-loop-less Inv-loop μ-loop Inv-loop2 μ-loop2
-loop-less c = omega arith
-
 loop-again : tie.Need-loop-again Inv-loop μ-loop Inv-loop2 μ-loop2
 loop-again c =
     let l = c .before .before in
     let words = l .before .before .args .words .now in
     (omega arith, sum-step (l .loop .at) (fifteenAt words (length words / 15)) (l .loop .inv .1) (c .ones-of-fifteen .ensures .0), omega arith)
-
-mul-k : tie.Need-mul-k Inv-loop μ-loop Inv-loop2 μ-loop2
-mul-k c = omega arith
 
 loop2-holds : tie.Need-loop2-holds Inv-loop μ-loop Inv-loop2 μ-loop2
 loop2-holds c =
@@ -62,24 +50,6 @@ loop2-holds c =
     let step = length words / 15 in
     let e : c .before .loop .at ≡ step = omega arith in
     (omega arith, c .before .loop .inv .1 ∙ ap (λ (k : ℕ). sum k (fifteenAt words step)) e ∙ parts step (onesAt words), omega arith)
-
-mul-ones-of : tie.Need-mul-ones-of Inv-loop μ-loop Inv-loop2 μ-loop2
-mul-ones-of c = omega arith
-
-shared-slice-read-ones-of : tie.Need-shared-slice-read-ones-of Inv-loop μ-loop Inv-loop2 μ-loop2
-shared-slice-read-ones-of c = omega arith
-
-ones-of-requires : tie.Need-ones-of-requires Inv-loop μ-loop Inv-loop2 μ-loop2
-ones-of-requires c κs = tt
-
-add-set-2 : tie.Need-add-set-2 Inv-loop μ-loop Inv-loop2 μ-loop2
-add-set-2 c = omega arith
-
-add-k : tie.Need-add-k Inv-loop μ-loop Inv-loop2 μ-loop2
-add-k c = omega arith
-
-loop2-less : tie.Need-loop2-less Inv-loop μ-loop Inv-loop2 μ-loop2
-loop2-less c = omega arith
 
 loop2-again : tie.Need-loop2-again Inv-loop μ-loop Inv-loop2 μ-loop2
 loop2-again c =
@@ -102,17 +72,17 @@ ones-in-spec =
     μ-loop2
     loop-holds
     ones-of-fifteen-requires
-    add-set
-    add-at
-    loop-less
+    (λ c. omega arith)
+    (λ c. omega arith)
+    (λ c. omega arith)
     loop-again
-    mul-k
+    (λ c. omega arith)
     loop2-holds
-    mul-ones-of
-    shared-slice-read-ones-of
-    ones-of-requires
-    add-set-2
-    add-k
-    loop2-less
+    (λ c. omega arith)
+    (λ c. omega arith)
+    (λ c κs. tt)
+    (λ c. omega arith)
+    (λ c. omega arith)
+    (λ c. omega arith)
     loop2-again
     returns)

@@ -67,12 +67,6 @@ shared-slice-read-any c =
     let r = c .before .before .before in
     omega (arith, read-inside (c .before), ap (λ (n : ℕ). r .before .before .before .args .height * n) (r .words-per-row .ensures))
 
-add-y : tie.Need-add-y Inv-loop μ-loop
-add-y c = omega arith
-
-loop-less : tie.Need-loop-less Inv-loop μ-loop
-loop-less c = omega arith
-
 loop-again : tie.Need-loop-again Inv-loop μ-loop
 loop-again c =
     let l = c .before .before in
@@ -89,9 +83,6 @@ loop-again c =
           let z = sym (padding-row words w y f (r .before .if1 .left)) ∙ none-set _ (sym here ∙ o .1) in
           omega (arith, sum-more y (paddingIn words w), l .loop .inv .1 (o .0), z),
     )
-
-shr-if2 : tie.Need-shr-if2 Inv-loop μ-loop
-shr-if2 c = omega arith
 
 returns-2 : tie.Need-returns-2 Inv-loop μ-loop
 unfolding paddingSet
@@ -123,10 +114,10 @@ padding-spec =
     add-any
     mul-any-2
     shared-slice-read-any
-    add-y
-    loop-less
+    (λ c. omega arith)
+    (λ c. omega arith)
     loop-again
-    shr-if2
+    (λ c. omega arith)
     returns-2
     padding-by-rows-requires
     returns-3)

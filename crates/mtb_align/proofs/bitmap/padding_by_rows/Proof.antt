@@ -47,21 +47,6 @@ shared-slice-read-ones-of c =
     let r = c .before .before .before in
     omega (arith, read-inside (c .before), ap (λ (n : ℕ). r .before .before .args .height * n) (r .words-per-row .ensures))
 
-shr-ones-of : tie.Need-shr-ones-of Inv-loop μ-loop
-shr-ones-of c = omega arith
-
-ones-of-requires : tie.Need-ones-of-requires Inv-loop μ-loop
-ones-of-requires c κs = tt
-
-add-set : tie.Need-add-set Inv-loop μ-loop
-add-set c = omega arith
-
-add-y : tie.Need-add-y Inv-loop μ-loop
-add-y c = omega arith
-
-loop-less : tie.Need-loop-less Inv-loop μ-loop
-loop-less c = omega arith
-
 loop-again : tie.Need-loop-again Inv-loop μ-loop
 loop-again c =
     let l = c .before .before .before in
@@ -96,10 +81,10 @@ padding-by-rows-spec =
     add-ones-of
     mul-ones-of-2
     shared-slice-read-ones-of
-    shr-ones-of
-    ones-of-requires
-    add-set
-    add-y
-    loop-less
+    (λ c. omega arith)
+    (λ c κs. tt)
+    (λ c. omega arith)
+    (λ c. omega arith)
+    (λ c. omega arith)
     loop-again
     returns)

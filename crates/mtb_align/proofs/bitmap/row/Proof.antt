@@ -12,18 +12,6 @@ use Rattle.mtb_align.proofs.Pixels.{few, long-stop, long-skip}
 use Rattle.mtb_align.proofs.bitmap.row.Statement.{statement}
 use Rattle.mtb_align.proofs.bitmap.row.Tie as tie
 
-side-over-requires : tie.Need-side-over-requires
-side-over-requires c κs = search needs
-
-sub-result : tie.Need-sub-result
-sub-result c = search needs
-
-part-result-start : tie.Need-part-result-start
-part-result-start c = search needs
-
-part-result-end : tie.Need-part-result-end
-part-result-end c = search needs
-
 returns : tie.Need-returns
 unfolding rowChecks
 returns c = refuses _ _ _ (sides-stop tt _ _ _ (sym (c .before .before .side-over .ensures) ∙ c .before .if1 .taken)) .1
@@ -38,29 +26,11 @@ words-per-row-requires c κs = sides c .0
 mul-if2 : tie.Need-mul-if2
 mul-if2 c = omega (arith, few _ _ _ (c .words-per-row .ensures) (sides (c .before)))
 
-sub-result-2 : tie.Need-sub-result-2
-sub-result-2 c = search needs
-
-part-result-start-2 : tie.Need-part-result-start-2
-part-result-start-2 c = search needs
-
-part-result-end-2 : tie.Need-part-result-end-2
-part-result-end-2 c = search needs
-
 returns-2 : tie.Need-returns-2
 unfolding rowChecks
 returns-2 c =
     let r = c .before .before in
     refuses _ _ _ (long-stop _ _ _ (r .words-per-row .ensures) (sides (r .before)) tt _ _ (c .before .if2 .taken)) .1
-
-sub-result-3 : tie.Need-sub-result-3
-sub-result-3 c = search needs
-
-part-result-start-3 : tie.Need-part-result-start-3
-part-result-start-3 c = search needs
-
-part-result-end-3 : tie.Need-part-result-end-3
-part-result-end-3 c = search needs
 
 returns-3 : tie.Need-returns-3
 unfolding rowChecks
@@ -87,12 +57,6 @@ add-end c = omega (arith, part-inside c)
 mul-result : tie.Need-mul-result
 mul-result c = omega (arith, part-inside c)
 
-sub-result-4 : tie.Need-sub-result-4
-sub-result-4 c = search needs
-
-part-result-start-4 : tie.Need-part-result-start-4
-part-result-start-4 c = search needs
-
 part-result-end-4 : tie.Need-part-result-end-4
 part-result-end-4 c = omega (arith, part-inside c, c .before .if2 .left)
 
@@ -112,25 +76,25 @@ pub row-spec : {M : Type 1} → statement M
 row-spec =
     tie.close
     (tie.spec
-    side-over-requires
-    sub-result
-    part-result-start
-    part-result-end
+    (λ c κs. search needs)
+    (λ c. search needs)
+    (λ c. search needs)
+    (λ c. search needs)
     returns
     words-per-row-requires
     mul-if2
-    sub-result-2
-    part-result-start-2
-    part-result-end-2
+    (λ c. search needs)
+    (λ c. search needs)
+    (λ c. search needs)
     returns-2
-    sub-result-3
-    part-result-start-3
-    part-result-end-3
+    (λ c. search needs)
+    (λ c. search needs)
+    (λ c. search needs)
     returns-3
     mul-start
     add-end
     mul-result
-    sub-result-4
-    part-result-start-4
+    (λ c. search needs)
+    (λ c. search needs)
     part-result-end-4
     returns-4)

@@ -13,9 +13,6 @@ use Rattle.mtb_align.proofs.Pixels.{few, inside, long-stop, column-stop
 use Rattle.mtb_align.proofs.bitmap.set.Statement.{statement}
 use Rattle.mtb_align.proofs.bitmap.set.Tie as tie
 
-side-over-requires : tie.Need-side-over-requires
-side-over-requires c κs = search needs
-
 returns : tie.Need-returns
 unfolding pixelChecks
 returns c = refuses _ _ _ (sides-stop tt _ _ _ (sym (c .before .side-over .ensures) ∙ c .if1 .taken))
@@ -67,17 +64,11 @@ mul-with-bit c = omega (arith, at-inside c)
 slice-read-with-bit : tie.Need-slice-read-with-bit
 slice-read-with-bit c = omega (arith, at-inside (c .before), c .before .before .before .if2 .left)
 
-with-bit-requires : tie.Need-with-bit-requires
-with-bit-requires c κs = search needs
-
 mul-words : tie.Need-mul-words
 mul-words c = omega (arith, at-inside (c .before .before))
 
 slice-write-words : tie.Need-slice-write-words
 slice-write-words c = omega (arith, at-inside (c .before .before), c .before .before .before .before .if2 .left)
-
-same-length : tie.Need-same-length
-same-length c = search needs
 
 returns-5 : tie.Need-returns-5
 unfolding withBit
@@ -94,7 +85,7 @@ pub set-spec : {M : Type 1} → statement M
 set-spec =
     tie.close
     (tie.spec
-    side-over-requires
+    (λ c κs. search needs)
     returns
     words-per-row-requires
     mul-if2
@@ -105,8 +96,8 @@ set-spec =
     add-at
     mul-with-bit
     slice-read-with-bit
-    with-bit-requires
+    (λ c κs. search needs)
     mul-words
     slice-write-words
-    same-length
+    (λ c. search needs)
     returns-5)

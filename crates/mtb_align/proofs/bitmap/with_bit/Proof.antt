@@ -8,9 +8,6 @@ use Rattle.laws.specs.Bitmaps.{withOne, with-set, with-cleared}
 use Rattle.mtb_align.proofs.bitmap.with_bit.Statement.{statement}
 use Rattle.mtb_align.proofs.bitmap.with_bit.Tie as tie
 
-shl-mask : tie.Need-shl-mask
-shl-mask c = search needs
-
 returns : tie.Need-returns
 returns c =
     let x = c .before .args in
@@ -22,4 +19,4 @@ returns-2 c =
     with-cleared (x .word) (x .i) (omega arith) (omega arith) ∙ ap (λ (b : Bool). withOne (x .word) (x .i) (bit b)) (sym (c .if1 .left))
 
 pub with-bit-spec : {M : Type 1} → statement M
-with-bit-spec = tie.close (tie.spec shl-mask returns returns-2)
+with-bit-spec = tie.close (tie.spec (λ c. search needs) returns returns-2)

@@ -5,12 +5,9 @@ use Rattle.definitions.specs.Bitmap.{wordsPerRow}
 use Rattle.mtb_align.proofs.bitmap.words_per_row.Statement.{statement}
 use Rattle.mtb_align.proofs.bitmap.words_per_row.Tie as tie
 
-add-result : tie.Need-add-result
-add-result c = search needs
-
 returns : tie.Need-returns
 unfolding wordsPerRow
 returns c = refl
 
 pub words-per-row-spec : {M : Type 1} → statement M
-words-per-row-spec = tie.close (tie.spec add-result returns)
+words-per-row-spec = tie.close (tie.spec (λ c. search needs) returns)

@@ -4,9 +4,6 @@ use Rattle.mtb_align.proofs.Counting.{rectangle-inside, moved-flat, mov
 use Rattle.mtb_align.proofs.difference.aligned.Statement.{statement}
 use Rattle.mtb_align.proofs.difference.aligned.Tie as tie
 
-add-if1 : tie.Need-add-if1
-add-if1 c = omega arith
-
 mul-flat : tie.Need-mul-flat
 mul-flat c = let p = c .before .before .before .before .before .pre in omega (arith, p .3, p .0 .small)
 
@@ -21,18 +18,6 @@ returns c =
     let x = s .args in
     let p = s .pre in
     moved-flat (x .rt .now) (x .re .now) (x .st .now) (x .se .now) (x .n) (x .rows) (x .i) (x .j) (x .m) (x .q) (c .before .if1 .taken) (p .1) (p .2) (c .flat .ensures)
-
-add-rectangle : tie.Need-add-rectangle
-add-rectangle c = omega arith
-
-add-rectangle-2 : tie.Need-add-rectangle-2
-add-rectangle-2 c = omega arith
-
-sub-rectangle : tie.Need-sub-rectangle
-sub-rectangle c = omega arith
-
-sub-rectangle-2 : tie.Need-sub-rectangle-2
-sub-rectangle-2 c = omega arith
 
 rectangle-requires : tie.Need-rectangle-requires
 rectangle-requires c κs =
@@ -50,13 +35,13 @@ pub aligned-spec : {M : Type 1} → statement M
 aligned-spec =
     tie.close
     (tie.spec
-    add-if1
+    (λ c. omega arith)
     mul-flat
     flat-requires
     returns
-    add-rectangle
-    add-rectangle-2
-    sub-rectangle
-    sub-rectangle-2
+    (λ c. omega arith)
+    (λ c. omega arith)
+    (λ c. omega arith)
+    (λ c. omega arith)
     rectangle-requires
     returns-2)

@@ -46,12 +46,6 @@ add-from c =
     let p = c .before .before .before .before .before .before .before .before .before .pre in
     omega (arith, grid-near _ _ _ _ _ _ _ _ _ _ _ _ (c .before .before .before .before .loop .inv) (p .3) (omega (arith, p .2)), p)
 
-add-row : tie.Need-add-row Inv-loop μ-loop
-add-row c = omega arith
-
-loop-less : tie.Need-loop-less Inv-loop μ-loop
-loop-less c = omega arith
-
 loop-again : tie.Need-loop-again Inv-loop μ-loop
 loop-again c =
     let p = c .before .before .before .before .before .before .before .before .before .pre in
@@ -104,8 +98,8 @@ banded-spec =
     add-at
     mul-from
     add-from
-    add-row
-    loop-less
+    (λ c. omega arith)
+    (λ c. omega arith)
     loop-again
     sub-grid
     grid-requires

@@ -19,15 +19,6 @@ use Rattle.mtb_align.proofs.Counting.{Split, split, rows-fit, alike}
 use Rattle.mtb_align.proofs.difference.count.Statement.{statement}
 use Rattle.mtb_align.proofs.difference.count.Tie as tie
 
-first-covered-requires : tie.Need-first-covered-requires
-first-covered-requires c κs = tt
-
-source-requires : tie.Need-source-requires
-source-requires c κs = tt
-
-enum-known-source-row : tie.Need-enum-known-source-row
-enum-known-source-row c = search needs
-
 enum-told : tie.Need-enum-told
 enum-told c = search needs
 
@@ -57,18 +48,6 @@ returns c =
     (subst (λ (z : ℤ). x .height ≤ ahead z + behind z) (toZ-ofZ (y-fits s))
     (first-outside _ _ _ (s .before .before .first-covered .ensures) (sym (s .source .ensures) ∙ ap placeIn (c .enum-told .given .1))))
 
-first-covered-requires-2 : tie.Need-first-covered-requires-2
-first-covered-requires-2 c κs = tt
-
-source-requires-2 : tie.Need-source-requires-2
-source-requires-2 c κs = tt
-
-enum-known-source-column : tie.Need-enum-known-source-column
-enum-known-source-column c = search needs
-
-enum-told-2 : tie.Need-enum-told-2
-enum-told-2 c = search needs
-
 -- ---- the columns that are
 
 abbrev begin : tie.After-source2 → tie.Start
@@ -93,9 +72,6 @@ returns-2 c =
     none-across (x .rt .now) (x .re .now) (x .st .now) (x .se .now) (x .width) (x .height) (shiftIn (x .shift))
     (subst (λ (z : ℤ). x .width ≤ ahead z + behind z) (toZ-ofZ (x-fits s))
     (first-outside _ _ _ (s .before .before .first-covered2 .ensures) (sym (s .source2 .ensures) ∙ ap placeIn (c .enum-told2 .given .1))))
-
-words-per-row-requires : tie.Need-words-per-row-requires
-words-per-row-requires c κs = omega arith
 
 -- ---- past both
 
@@ -147,9 +123,6 @@ add-m c = omega (arith, near c)
 mul-rest : tie.Need-mul-rest
 mul-rest c = omega (arith, near c)
 
-sub-rest : tie.Need-sub-rest
-sub-rest c = omega arith
-
 add-rest : tie.Need-add-rest
 add-rest c = omega (arith, near c)
 
@@ -189,20 +162,20 @@ pub count-spec : {M : Type 1} → statement M
 count-spec =
     tie.close
     (tie.spec
-    first-covered-requires
-    source-requires
-    enum-known-source-row
+    (λ c κs. tt)
+    (λ c κs. tt)
+    (λ c. search needs)
     enum-told
     returns
-    first-covered-requires-2
-    source-requires-2
-    enum-known-source-column
-    enum-told-2
+    (λ c κs. tt)
+    (λ c κs. tt)
+    (λ c. search needs)
+    (λ c. search needs)
     returns-2
-    words-per-row-requires
+    (λ c κs. omega arith)
     add-m
     mul-rest
-    sub-rest
+    (λ c. omega arith)
     add-rest
     sub-moved
     sub-moved-2

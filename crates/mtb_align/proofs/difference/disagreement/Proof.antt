@@ -9,14 +9,8 @@ use Rattle.laws.specs.ChecksDifference.{Sized, Long, long-as, reference-over, t
 use Rattle.mtb_align.proofs.difference.disagreement.Statement.{statement}
 use Rattle.mtb_align.proofs.difference.disagreement.Tie as tie
 
-side-over-requires : tie.Need-side-over-requires
-side-over-requires c κs = tt
-
 returns : tie.Need-returns
 returns c = reference-over _ _ _ _ _ _ _ _ _ (sym (c .before .side-over .ensures) ∙ c .if1 .taken)
-
-side-over-requires-2 : tie.Need-side-over-requires-2
-side-over-requires-2 c κs = tt
 
 -- past the checks of the sides
 sides : (c : tie.Else1) → let x = c .before .before .before .before .before .before .args in (x .width ≤ 8192) × (x .height ≤ 8192)
@@ -89,9 +83,9 @@ pub disagreement-spec : {M : Type 1} → statement M
 disagreement-spec =
     tie.close
     (tie.spec
-    side-over-requires
+    (λ c κs. tt)
     returns
-    side-over-requires-2
+    (λ c κs. tt)
     returns-2
     returns-3
     returns-4

@@ -29,14 +29,8 @@ edge-word-requires c κs =
     let h = reads-here c in
     (p .0, h .in-re, omega (arith, h .in-se, p .0 .se-long), p .4, p .5)
 
-ones-of-requires : tie.Need-ones-of-requires Inv-loop μ-loop
-ones-of-requires c κs = tt
-
 add-compared : tie.Need-add-compared Inv-loop μ-loop
 add-compared c = omega (arith, c .before .before .before .loop .inv .counted, c .before .before .before .before .before .before .before .before .pre)
-
-ones-of-requires-2 : tie.Need-ones-of-requires-2 Inv-loop μ-loop
-ones-of-requires-2 c κs = tt
 
 add-disagreeing : tie.Need-add-disagreeing Inv-loop μ-loop
 add-disagreeing c = omega (arith, c .before .before .before .before .loop .inv .counted, c .before .before .before .before .before .before .before .before .before .pre)
@@ -46,12 +40,6 @@ add-at c = omega (arith, reads-here (c .before .before .before), c .before .befo
 
 add-from : tie.Need-add-from Inv-loop μ-loop
 add-from c = omega (arith, reads-here (c .before .before .before), c .before .before .before .before .before .before .before .before .before .pre)
-
-add-k : tie.Need-add-k Inv-loop μ-loop
-add-k c = omega arith
-
-loop-less : tie.Need-loop-less Inv-loop μ-loop
-loop-less c = omega arith
 
 loop-again : tie.Need-loop-again Inv-loop μ-loop
 loop-again c = goes-on _ _ _ _ _ _ _ _ _ (c .before .before .before .before .loop .inv) (c .before .before .before .loop-test .taken) (c .before .before .edge-word .ensures) (c .before .ones-of .ensures .0) (c .ones-of2 .ensures .0)
@@ -67,13 +55,13 @@ edge-run-spec =
     μ-loop
     loop-holds
     edge-word-requires
-    ones-of-requires
+    (λ c κs. tt)
     add-compared
-    ones-of-requires-2
+    (λ c κs. tt)
     add-disagreeing
     add-at
     add-from
-    add-k
-    loop-less
+    (λ c. omega arith)
+    (λ c. omega arith)
     loop-again
     returns)

@@ -11,25 +11,10 @@ whole-band-requires c κs =
     let p = c .before .before .before .before .pre in
     (p .0, parts-inside _ _ _ _ _ refl (p .1) (p .2), omega (arith, p .0 .small))
 
-mul-whole-run : tie.Need-mul-whole-run
-mul-whole-run c = omega arith
-
-add-whole-run : tie.Need-add-whole-run
-add-whole-run c = omega arith
-
-mul-whole-run-2 : tie.Need-mul-whole-run-2
-mul-whole-run-2 c = omega arith
-
-add-whole-run-2 : tie.Need-add-whole-run-2
-add-whole-run-2 c = omega arith
-
 whole-run-requires : tie.Need-whole-run-requires
 whole-run-requires c κs =
     let p = c .before .before .before .before .before .pre in
     (p .0, run-inside _ _ _ _ (omega arith) (omega arith), omega arith, omega arith)
-
-together-requires : tie.Need-together-requires
-together-requires c κs = omega arith
 
 returns : tie.Need-returns
 returns c =
@@ -41,10 +26,10 @@ flat-spec =
     tie.close
     (tie.spec
     whole-band-requires
-    mul-whole-run
-    add-whole-run
-    mul-whole-run-2
-    add-whole-run-2
+    (λ c. omega arith)
+    (λ c. omega arith)
+    (λ c. omega arith)
+    (λ c. omega arith)
     whole-run-requires
-    together-requires
+    (λ c κs. omega arith)
     returns)

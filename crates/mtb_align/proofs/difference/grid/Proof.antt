@@ -37,12 +37,6 @@ add-from c =
     let p = c .before .before .before .before .before .before .before .before .before .pre in
     omega (arith, grid-near _ _ _ _ _ _ _ _ _ _ _ _ (c .before .before .before .before .loop .inv) (p .4) (p .2), p)
 
-add-line : tie.Need-add-line Inv-loop μ-loop
-add-line c = omega arith
-
-loop-less : tie.Need-loop-less Inv-loop μ-loop
-loop-less c = omega arith
-
 loop-again : tie.Need-loop-again Inv-loop μ-loop
 loop-again c =
     let n = c .before .before .before .before .before .before .before .before .before .pre .5 in
@@ -63,7 +57,7 @@ grid-spec =
     add-disagreeing
     add-at
     add-from
-    add-line
-    loop-less
+    (λ c. omega arith)
+    (λ c. omega arith)
     loop-again
     returns)

@@ -17,36 +17,15 @@ returns c =
     let x = c .before .before .before .before .before .before .args in
     counted-at (movedRows (x .rt .now) (x .re .now) (x .st .now) (x .se .now) (x .n) (x .rows) (x .i) (x .j) (x .m) (x .q)) (c .aligned .ensures) (sym (c .before .if1 .taken))
 
-add-rectangle : tie.Need-add-rectangle
-add-rectangle c = omega arith
-
-add-rectangle-2 : tie.Need-add-rectangle-2
-add-rectangle-2 c = omega arith
-
-sub-rectangle : tie.Need-sub-rectangle
-sub-rectangle c = omega arith
-
 rectangle-requires : tie.Need-rectangle-requires
 rectangle-requires c κs =
     let p = c .before .before .before .before .before .before .pre in
     (p .0, rectangle-inside _ _ _ _ _ _ _ (omega arith) (omega arith), p .1, p .2, omega arith, p .8, omega (arith, p .0 .small), omega (arith, p .0 .small))
 
-sub-edge-run : tie.Need-sub-edge-run
-sub-edge-run c = omega arith
-
-add-edge-run : tie.Need-add-edge-run
-add-edge-run c = omega arith
-
-sub-edge-run-2 : tie.Need-sub-edge-run-2
-sub-edge-run-2 c = omega arith
-
 edge-run-requires : tie.Need-edge-run-requires
 edge-run-requires c κs =
     let p = c .before .before .before .before .before .before .before .pre in
     (p .0, column-inside _ _ _ _ _ (omega arith) (omega arith), omega arith, p .2, omega arith, omega arith)
-
-together-requires : tie.Need-together-requires
-together-requires c κs = omega arith
 
 returns-2 : tie.Need-returns-2
 returns-2 c =
@@ -56,36 +35,15 @@ returns-2 c =
     moved-right (x .rt .now) (x .re .now) (x .st .now) (x .se .now) (x .n) (x .rows) (x .i) (x .j) (x .m) (x .q) (x .bit) (p .2) (c .together .ensures)
     (c .before .before .before .if2 .taken) (p .5) (p .6) (omega arith) (c .before .before .rectangle .ensures) (c .before .edge-run .ensures)
 
-sub-last : tie.Need-sub-last
-sub-last c = omega arith
-
-sub-columns : tie.Need-sub-columns
-sub-columns c = omega arith
-
-add-rectangle-3 : tie.Need-add-rectangle-3
-add-rectangle-3 c = omega arith
-
-add-rectangle-4 : tie.Need-add-rectangle-4
-add-rectangle-4 c = omega arith
-
 rectangle-requires-2 : tie.Need-rectangle-requires-2
 rectangle-requires-2 c κs =
     let p = c .before .before .before .before .before .before .pre in
     (p .0, rectangle-inside _ _ _ _ _ _ _ (omega arith) (omega arith), p .1, p .2, omega arith, p .8, omega (arith, p .0 .small), omega (arith, p .0 .small))
 
-add-edge-run-2 : tie.Need-add-edge-run-2
-add-edge-run-2 c = omega arith
-
-add-edge-run-3 : tie.Need-add-edge-run-3
-add-edge-run-3 c = omega arith
-
 edge-run-requires-2 : tie.Need-edge-run-requires-2
 edge-run-requires-2 c κs =
     let p = c .before .before .before .before .before .before .before .pre in
     (p .0, column-inside _ _ _ _ _ (omega arith) (omega arith), omega arith, p .2, p .8, omega arith)
-
-together-requires-2 : tie.Need-together-requires-2
-together-requires-2 c κs = omega arith
 
 returns-3 : tie.Need-returns-3
 returns-3 c =
@@ -103,23 +61,23 @@ moved-spec =
     (tie.spec
     aligned-requires
     returns
-    add-rectangle
-    add-rectangle-2
-    sub-rectangle
+    (λ c. omega arith)
+    (λ c. omega arith)
+    (λ c. omega arith)
     rectangle-requires
-    sub-edge-run
-    add-edge-run
-    sub-edge-run-2
+    (λ c. omega arith)
+    (λ c. omega arith)
+    (λ c. omega arith)
     edge-run-requires
-    together-requires
+    (λ c κs. omega arith)
     returns-2
-    sub-last
-    sub-columns
-    add-rectangle-3
-    add-rectangle-4
+    (λ c. omega arith)
+    (λ c. omega arith)
+    (λ c. omega arith)
+    (λ c. omega arith)
     rectangle-requires-2
-    add-edge-run-2
-    add-edge-run-3
+    (λ c. omega arith)
+    (λ c. omega arith)
     edge-run-requires-2
-    together-requires-2
+    (λ c κs. omega arith)
     returns-3)

@@ -30,9 +30,6 @@ returns c =
     let none : (words : List ℕ) → 0 ≡ paddingSet words (x .width) (x .height) = λ words. padding-none words (x .width) (x .height) (c .if1 .taken) in
     sym (le-ltb 0 (paddingOf (x .rt .now) (x .re .now) (x .st .now) (x .se .now) (x .width) (x .height)) (omega (arith, none (x .rt .now), none (x .re .now), none (x .st .now), none (x .se .now))))
 
-words-per-row-requires : tie.Need-words-per-row-requires Inv-loop μ-loop
-words-per-row-requires c κs = omega arith
-
 loop-holds : tie.Need-loop-holds Inv-loop μ-loop
 loop-holds c = (omega arith, omega arith, clear-none _ _, clear-none _ _, clear-none _ _, clear-none _ _)
 
@@ -90,12 +87,6 @@ shared-slice-read-in-se c = omega (arith, reads-here (c .before .before .before 
 add-at : tie.Need-add-at Inv-loop μ-loop
 add-at c = omega (arith, reads-here (c .before .before .before .before))
 
-add-y : tie.Need-add-y Inv-loop μ-loop
-add-y c = omega arith
-
-loop-less : tie.Need-loop-less Inv-loop μ-loop
-loop-less c = omega arith
-
 loop-again : tie.Need-loop-again Inv-loop μ-loop
 loop-again c =
     let l = c .before .before .before .before .before in
@@ -114,9 +105,6 @@ loop-again c =
       clear-more (x .se .now) (x .width) ne y _ _ e (omega (arith, k .shared-slice-known4 .given (l .loop .at))) (l .loop .inv .5),
     )
 
-shr-result : tie.Need-shr-result Inv-loop μ-loop
-shr-result c = omega arith
-
 returns-2 : tie.Need-returns-2 Inv-loop μ-loop
 unfolding paddingSet
 returns-2 c =
@@ -134,7 +122,7 @@ padded-spec =
     Inv-loop
     μ-loop
     returns
-    words-per-row-requires
+    (λ c κs. omega arith)
     loop-holds
     mul-in-rt
     shared-slice-read-in-rt
@@ -145,8 +133,8 @@ padded-spec =
     mul-in-se
     shared-slice-read-in-se
     add-at
-    add-y
-    loop-less
+    (λ c. omega arith)
+    (λ c. omega arith)
     loop-again
-    shr-result
+    (λ c. omega arith)
     returns-2)

@@ -129,12 +129,6 @@ spanned-word-requires-7 c κs =
     let h = here s 6 (omega arith) in
     (p .0, omega (arith, h), omega (arith, h), p .2, p .3)
 
-ones-of-seven-requires : tie.Need-ones-of-seven-requires
-ones-of-seven-requires c κs = search needs
-
-ones-of-seven-requires-2 : tie.Need-ones-of-seven-requires-2
-ones-of-seven-requires-2 c κs = search needs
-
 returns : tie.Need-returns
 returns c =
     let w = c .before .before in
@@ -182,6 +176,6 @@ spanned-seven-spec =
     mul-spanned-word-10
     add-spanned-word-12
     spanned-word-requires-7
-    ones-of-seven-requires
-    ones-of-seven-requires-2
+    (λ c κs. search needs)
+    (λ c κs. search needs)
     returns)

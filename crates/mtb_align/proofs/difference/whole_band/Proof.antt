@@ -42,12 +42,6 @@ add-at c = omega (arith, reads-here (c .before .before .before) .each 0 (omega a
 add-from : tie.Need-add-from Inv-loop μ-loop
 add-from c = omega (arith, reads-here (c .before .before .before) .each 0 (omega arith), c .before .before .before .before .before .before .before .before .before .pre .0 .small)
 
-add-k : tie.Need-add-k Inv-loop μ-loop
-add-k c = omega arith
-
-loop-less : tie.Need-loop-less Inv-loop μ-loop
-loop-less c = omega arith
-
 loop-again : tie.Need-loop-again Inv-loop μ-loop
 loop-again c = grid-goes-on _ _ _ _ _ _ _ _ _ _ _ _ (c .before .before .before .before .loop .inv) (c .before .before .before .loop-test .taken) (c .before .before .whole-seven .ensures)
 
@@ -68,7 +62,7 @@ whole-band-spec =
     add-disagreeing
     add-at
     add-from
-    add-k
-    loop-less
+    (λ c. omega arith)
+    (λ c. omega arith)
     loop-again
     returns)

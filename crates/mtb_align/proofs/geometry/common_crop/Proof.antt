@@ -8,9 +8,6 @@ use Rattle.laws.specs.ChecksGeometry.{odd-stop, odd-skip}
 use Rattle.mtb_align.proofs.geometry.common_crop.Statement.{statement}
 use Rattle.mtb_align.proofs.geometry.common_crop.Tie as tie
 
-side-over-requires : tie.Need-side-over-requires
-side-over-requires c κs = search needs
-
 returns : tie.Need-returns
 unfolding cropChecks
 returns c = sides-stop _ _ _ _ (sym (c .before .side-over .ensures) ∙ c .if1 .taken)
@@ -20,12 +17,6 @@ unfolding cropChecks
 returns-2 c =
     let s = sides-within _ _ (sym (c .before .before .side-over .ensures) ∙ c .before .if1 .left) in
     sides-skip _ _ _ _ s (odd-stop _ _ _ (c .if2 .taken))
-
-span-requires : tie.Need-span-requires
-span-requires c κs = search needs
-
-span-requires-2 : tie.Need-span-requires-2
-span-requires-2 c κs = search needs
 
 returns-3 : tie.Need-returns-3
 unfolding cropChecks
@@ -40,4 +31,4 @@ returns-3 c =
 pub common-crop-spec : {M : Type 1} → statement M
 common-crop-spec =
     tie.close
-    (tie.spec side-over-requires returns returns-2 span-requires span-requires-2 returns-3)
+    (tie.spec (λ c κs. search needs) returns returns-2 (λ c κs. search needs) (λ c κs. search needs) returns-3)

@@ -7,19 +7,10 @@ use Rattle.definitions.specs.Geometry.{ahead}
 use Rattle.mtb_align.proofs.geometry.first_covered.Statement.{statement}
 use Rattle.mtb_align.proofs.geometry.first_covered.Tie as tie
 
-above-requires : tie.Need-above-requires
-above-requires c κs = search needs
-
-without-requires : tie.Need-without-requires
-without-requires c κs = search needs
-
-smaller-requires : tie.Need-smaller-requires
-smaller-requires c κs = search needs
-
 returns : tie.Need-returns
 returns c =
     let a = c .before .before in
     c .smaller .ensures ∙ ap₂ min (a .above .ensures ∙ ap ahead (toZ-ofZ (a .before .fits .shift))) (c .before .without .ensures)
 
 pub first-covered-spec : {M : Type 1} → statement M
-first-covered-spec = tie.close (tie.spec above-requires without-requires smaller-requires returns)
+first-covered-spec = tie.close (tie.spec (λ c κs. search needs) (λ c κs. search needs) (λ c κs. search needs) returns)

@@ -8,27 +8,6 @@ use Rattle.laws.specs.Runs.{sets-then}
 use Rattle.mtb_align.proofs.geometry.move_row.Statement.{statement}
 use Rattle.mtb_align.proofs.geometry.move_row.Tie as tie
 
-clear-run-requires : tie.Need-clear-run-requires
-clear-run-requires c κs = search needs
-
-add-copy-run : tie.Need-add-copy-run
-add-copy-run c = search needs
-
-copy-run-requires : tie.Need-copy-run-requires
-copy-run-requires c κs = search needs
-
-add-clear-run : tie.Need-add-clear-run
-add-clear-run c = search needs
-
-add-clear-run-2 : tie.Need-add-clear-run-2
-add-clear-run-2 c = search needs
-
-clear-run-requires-2 : tie.Need-clear-run-requires-2
-clear-run-requires-2 c κs = search needs
-
-same-length : tie.Need-same-length
-same-length c = search needs
-
 returns : tie.Need-returns
 returns c =
     let third = c .before .before in
@@ -43,11 +22,11 @@ pub move-row-spec : {M : Type 1} → statement M
 move-row-spec =
     tie.close
     (tie.spec
-    clear-run-requires
-    add-copy-run
-    copy-run-requires
-    add-clear-run
-    add-clear-run-2
-    clear-run-requires-2
-    same-length
+    (λ c κs. search needs)
+    (λ c. search needs)
+    (λ c κs. search needs)
+    (λ c. search needs)
+    (λ c. search needs)
+    (λ c κs. search needs)
+    (λ c. search needs)
     returns)

@@ -128,32 +128,11 @@ written l e q =
     let a = start (l .before) .args in
     next (a .width) (a .height) (a .samples .now) (shiftIn (a .shift)) (a .moved .now) (l .loop .y) e (l .loop .inv .2) q
 
-above-requires : tie.Need-above-requires Inv-loop μ-loop
-above-requires c κs = tt
-
-smaller-requires : tie.Need-smaller-requires Inv-loop μ-loop
-smaller-requires c κs = tt
-
-below-requires : tie.Need-below-requires Inv-loop μ-loop
-below-requires c κs = tt
-
-smaller-requires-2 : tie.Need-smaller-requires-2 Inv-loop μ-loop
-smaller-requires-2 c κs = tt
-
-sub-n : tie.Need-sub-n Inv-loop μ-loop
-sub-n c = omega arith
-
 sub-n-2 : tie.Need-sub-n-2 Inv-loop μ-loop
 sub-n-2 c = omega (arith, run-sum (run c))
 
 loop-holds : tie.Need-loop-holds Inv-loop μ-loop
 loop-holds c = (omega arith, refl, rows-none _ 0 _)
-
-source-requires : tie.Need-source-requires Inv-loop μ-loop
-source-requires c κs = tt
-
-enum-known-row : tie.Need-enum-known-row Inv-loop μ-loop
-enum-known-row c = search needs
 
 enum-told : tie.Need-enum-told Inv-loop μ-loop
 enum-told c = search needs
@@ -163,12 +142,6 @@ mul-clear-run c = omega (arith, room (c .before .before .before .before .before)
 
 clear-run-requires : tie.Need-clear-run-requires Inv-loop μ-loop
 clear-run-requires c κs = omega (arith, room (c .before .before .before .before .before))
-
-add-y : tie.Need-add-y Inv-loop μ-loop
-add-y c = omega arith
-
-loop-less : tie.Need-loop-less Inv-loop μ-loop
-loop-less c = omega arith
 
 loop-again : tie.Need-loop-again Inv-loop μ-loop
 loop-again c =
@@ -191,12 +164,6 @@ move-row-requires c κs =
     let r = room (d .before .before .before .before .before) in
     let s = run-sum (run (d .before .before .before .before .before .before .before)) in
     (omega (arith, row-room d), omega arith)
-
-add-y-2 : tie.Need-add-y-2 Inv-loop μ-loop
-add-y-2 c = omega arith
-
-loop-less-2 : tie.Need-loop-less-2 Inv-loop μ-loop
-loop-less-2 c = omega arith
 
 loop-again-2 : tie.Need-loop-again-2 Inv-loop μ-loop
 loop-again-2 c =
@@ -225,27 +192,27 @@ move-rows-spec =
     (tie.spec
     Inv-loop
     μ-loop
-    above-requires
-    smaller-requires
-    below-requires
-    smaller-requires-2
-    sub-n
+    (λ c κs. tt)
+    (λ c κs. tt)
+    (λ c κs. tt)
+    (λ c κs. tt)
+    (λ c. omega arith)
     sub-n-2
     loop-holds
-    source-requires
-    enum-known-row
+    (λ c κs. tt)
+    (λ c. search needs)
     enum-told
     mul-clear-run
     clear-run-requires
-    add-y
-    loop-less
+    (λ c. omega arith)
+    (λ c. omega arith)
     loop-again
     mul-move-row
     add-move-row
     mul-move-row-2
     move-row-requires
-    add-y-2
-    loop-less-2
+    (λ c. omega arith)
+    (λ c. omega arith)
     loop-again-2
     same-length
     returns)

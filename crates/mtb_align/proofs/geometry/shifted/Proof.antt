@@ -8,9 +8,6 @@ use Rattle.laws.specs.Sizes.{area}
 use Rattle.mtb_align.proofs.geometry.shifted.Statement.{statement}
 use Rattle.mtb_align.proofs.geometry.shifted.Tie as tie
 
-side-over-requires : tie.Need-side-over-requires
-side-over-requires c κs = search needs
-
 returns : tie.Need-returns
 unfolding shiftedChecks
 returns c = refuses _ _ _ (sides-stop tt _ _ _ (sym (c .before .side-over .ensures) ∙ c .if1 .taken))
@@ -26,9 +23,6 @@ returns-2 c =
     let s = sides-within _ _ (sym (c .before .before .side-over .ensures) ∙ c .before .if1 .left) in
     refuses _ _ _ (sides-skip tt _ _ _ s (length-stop tt _ _ _ (c .if2 .taken)))
 
-mul-if3 : tie.Need-mul-if3
-mul-if3 c = search needs
-
 returns-3 : tie.Need-returns-3
 unfolding shiftedChecks
 returns-3 c =
@@ -39,9 +33,6 @@ move-rows-requires : tie.Need-move-rows-requires
 move-rows-requires c κs =
     let s = sides-within _ _ (sym (c .before .before .before .before .side-over .ensures) ∙ c .before .before .before .if1 .left) in
     (s .0, s .1, c .before .before .if2 .left, c .before .if3 .left)
-
-same-length : tie.Need-same-length
-same-length c = search needs
 
 returns-4 : tie.Need-returns-4
 unfolding shiftedChecks
@@ -55,12 +46,12 @@ pub shifted-spec : {M : Type 1} → statement M
 shifted-spec =
     tie.close
     (tie.spec
-    side-over-requires
+    (λ c κs. search needs)
     returns
     mul-if2
     returns-2
-    mul-if3
+    (λ c. search needs)
     returns-3
     move-rows-requires
-    same-length
+    (λ c. search needs)
     returns-4)

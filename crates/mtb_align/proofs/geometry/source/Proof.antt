@@ -8,12 +8,6 @@ use Rattle.laws.specs.Places.{source-before, source-inside, source-past}
 use Rattle.mtb_align.proofs.geometry.source.Statement.{statement}
 use Rattle.mtb_align.proofs.geometry.source.Tie as tie
 
-above-requires : tie.Need-above-requires
-above-requires c κs = search needs
-
-below-requires : tie.Need-below-requires
-below-requires c κs = search needs
-
 -- what the two calls gave, of the shift itself: a signed argument is passed by its bits
 abbrev Known : tie.After-below → Type 0
 Known c = (c .before .above .result ≡ ahead (c .before .before .args .shift)) × (c .below .result ≡ behind (c .before .before .args .shift))
@@ -33,12 +27,6 @@ returns-2 c =
     let a = c .before .before .before .before .args in
     sym (source-past (a .destination) (a .shift) (a .extent) (omega (arith, known (c .before .before))))
 
-sub-if3 : tie.Need-sub-if3
-sub-if3 c = search needs
-
-add-t10 : tie.Need-add-t10
-add-t10 c = search needs
-
 returns-3 : tie.Need-returns-3
 returns-3 c =
     let a = c .before .before .before .before .before .args in
@@ -53,4 +41,4 @@ returns-4 c =
 pub source-spec : {M : Type 1} → statement M
 source-spec =
     tie.close
-    (tie.spec above-requires below-requires returns returns-2 sub-if3 add-t10 returns-3 returns-4)
+    (tie.spec (λ c κs. search needs) (λ c κs. search needs) returns returns-2 (λ c. search needs) (λ c. search needs) returns-3 returns-4)

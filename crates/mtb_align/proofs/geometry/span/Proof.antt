@@ -28,30 +28,6 @@ abbrev μ-loop : tie.MeasureT-loop
 loop-holds : tie.Need-loop-holds Inv-loop μ-loop
 loop-holds c = (omega arith, largest-none ahead _, largest-none behind _)
 
-mul-coordinate : tie.Need-mul-coordinate Inv-loop μ-loop
-mul-coordinate c = omega arith
-
-add-coordinate : tie.Need-add-coordinate Inv-loop μ-loop
-add-coordinate c = omega arith
-
-mul-coordinate-2 : tie.Need-mul-coordinate-2 Inv-loop μ-loop
-mul-coordinate-2 c = omega arith
-
-shared-slice-copy-out-coordinate : tie.Need-shared-slice-copy-out-coordinate Inv-loop μ-loop
-shared-slice-copy-out-coordinate c = omega arith
-
-upper-requires : tie.Need-upper-requires Inv-loop μ-loop
-upper-requires c κs = tt
-
-lower-requires : tie.Need-lower-requires Inv-loop μ-loop
-lower-requires c κs = tt
-
-add-k : tie.Need-add-k Inv-loop μ-loop
-add-k c = omega arith
-
-loop-less : tie.Need-loop-less Inv-loop μ-loop
-loop-less c = omega arith
-
 loop-again : tie.Need-loop-again Inv-loop μ-loop
 loop-again c =
     let l = c .before .before .before .before .loop in
@@ -69,18 +45,6 @@ loop-again c =
           ∙ ap (max (behind (toZ w32 (l .least)))) (ap behind (toZ-ofZ f))
           ∙ largest-more behind (coordinateOf (a .axis) (a .shifts .now)) (l .k) (l .inv .2),
     )
-
-above-requires : tie.Need-above-requires Inv-loop μ-loop
-above-requires c κs = tt
-
-below-requires : tie.Need-below-requires Inv-loop μ-loop
-below-requires c κs = tt
-
-without-requires : tie.Need-without-requires Inv-loop μ-loop
-without-requires c κs = tt
-
-without-requires-2 : tie.Need-without-requires-2 Inv-loop μ-loop
-without-requires-2 c κs = tt
 
 returns : tie.Need-returns Inv-loop μ-loop
 unfolding axisOf
@@ -100,17 +64,17 @@ span-spec =
     Inv-loop
     μ-loop
     loop-holds
-    mul-coordinate
-    add-coordinate
-    mul-coordinate-2
-    shared-slice-copy-out-coordinate
-    upper-requires
-    lower-requires
-    add-k
-    loop-less
+    (λ c. omega arith)
+    (λ c. omega arith)
+    (λ c. omega arith)
+    (λ c. omega arith)
+    (λ c κs. tt)
+    (λ c κs. tt)
+    (λ c. omega arith)
+    (λ c. omega arith)
     loop-again
-    above-requires
-    below-requires
-    without-requires
-    without-requires-2
+    (λ c κs. tt)
+    (λ c κs. tt)
+    (λ c κs. tt)
+    (λ c κs. tt)
     returns)

@@ -26,42 +26,6 @@ abbrev μ-loop : tie.MeasureT-loop
 loop-holds : tie.Need-loop-holds Inv-loop μ-loop
 loop-holds c = (omega arith, refl, store-none _ 0 (pixel (c .before .before .args .rgb .now)))
 
-mul-grey-of : tie.Need-mul-grey-of Inv-loop μ-loop
-mul-grey-of c = omega arith
-
-shared-slice-read-grey-of : tie.Need-shared-slice-read-grey-of Inv-loop μ-loop
-shared-slice-read-grey-of c = omega arith
-
-mul-grey-of-2 : tie.Need-mul-grey-of-2 Inv-loop μ-loop
-mul-grey-of-2 c = omega arith
-
-add-grey-of : tie.Need-add-grey-of Inv-loop μ-loop
-add-grey-of c = omega arith
-
-shared-slice-read-grey-of-2 : tie.Need-shared-slice-read-grey-of-2 Inv-loop μ-loop
-shared-slice-read-grey-of-2 c = omega arith
-
-mul-grey-of-3 : tie.Need-mul-grey-of-3 Inv-loop μ-loop
-mul-grey-of-3 c = omega arith
-
-add-grey-of-2 : tie.Need-add-grey-of-2 Inv-loop μ-loop
-add-grey-of-2 c = omega arith
-
-shared-slice-read-grey-of-3 : tie.Need-shared-slice-read-grey-of-3 Inv-loop μ-loop
-shared-slice-read-grey-of-3 c = omega arith
-
-grey-of-requires : tie.Need-grey-of-requires Inv-loop μ-loop
-grey-of-requires c κs = tt
-
-slice-write-gray : tie.Need-slice-write-gray Inv-loop μ-loop
-slice-write-gray c = omega arith
-
-add-i : tie.Need-add-i Inv-loop μ-loop
-add-i c = omega arith
-
-loop-less : tie.Need-loop-less Inv-loop μ-loop
-loop-less c = omega arith
-
 loop-again : tie.Need-loop-again Inv-loop μ-loop
 loop-again c =
     let l = c .before .before .before .before .before in
@@ -90,18 +54,18 @@ flatten-spec =
     Inv-loop
     μ-loop
     loop-holds
-    mul-grey-of
-    shared-slice-read-grey-of
-    mul-grey-of-2
-    add-grey-of
-    shared-slice-read-grey-of-2
-    mul-grey-of-3
-    add-grey-of-2
-    shared-slice-read-grey-of-3
-    grey-of-requires
-    slice-write-gray
-    add-i
-    loop-less
+    (λ c. omega arith)
+    (λ c. omega arith)
+    (λ c. omega arith)
+    (λ c. omega arith)
+    (λ c. omega arith)
+    (λ c. omega arith)
+    (λ c. omega arith)
+    (λ c. omega arith)
+    (λ c κs. tt)
+    (λ c. omega arith)
+    (λ c. omega arith)
+    (λ c. omega arith)
     loop-again
     same-length
     returns)

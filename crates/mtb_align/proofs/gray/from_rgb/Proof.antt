@@ -8,9 +8,6 @@ use Rattle.laws.specs.Sizes.{area}
 use Rattle.mtb_align.proofs.gray.from_rgb.Statement.{statement}
 use Rattle.mtb_align.proofs.gray.from_rgb.Tie as tie
 
-side-over-requires : tie.Need-side-over-requires
-side-over-requires c κs = search needs
-
 returns : tie.Need-returns
 unfolding fromRgbChecks
 returns c = refuses _ _ _ (sides-stop tt _ _ _ (sym (c .before .side-over .ensures) ∙ c .if1 .taken))
@@ -31,9 +28,6 @@ returns-2 c =
     let s = sides-within _ _ (sym (c .before .before .side-over .ensures) ∙ c .before .if1 .left) in
     refuses _ _ _ (sides-skip tt _ _ _ s (length-stop tt _ _ _ (c .if2 .taken)))
 
-mul-if3 : tie.Need-mul-if3
-mul-if3 c = search needs
-
 returns-3 : tie.Need-returns-3
 unfolding fromRgbChecks
 returns-3 c =
@@ -44,9 +38,6 @@ flatten-requires : tie.Need-flatten-requires
 flatten-requires c κs =
     let s = sides-within _ _ (sym (c .before .before .before .before .side-over .ensures) ∙ c .before .before .before .if1 .left) in
     (s .0, s .1, c .before .before .if2 .left, c .before .if3 .left)
-
-same-length : tie.Need-same-length
-same-length c = search needs
 
 returns-4 : tie.Need-returns-4
 unfolding fromRgbChecks
@@ -59,13 +50,13 @@ pub from-rgb-spec : {M : Type 1} → statement M
 from-rgb-spec =
     tie.close
     (tie.spec
-    side-over-requires
+    (λ c κs. search needs)
     returns
     mul-if2
     mul-if2-2
     returns-2
-    mul-if3
+    (λ c. search needs)
     returns-3
     flatten-requires
-    same-length
+    (λ c. search needs)
     returns-4)

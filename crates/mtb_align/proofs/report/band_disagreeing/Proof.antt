@@ -79,9 +79,6 @@ module _ (c : tie.After-words-per-row) where
   fourth : let a = c .before .before .args in take (3 * (a .height * n) + a .down * n + a .rows * n - (3 * (a .height * n) + a .down * n)) (drop (3 * (a .height * n) + a .down * n) words) ≡ of 3 (a .down)
   fourth = let a = c .before .before .args in part c 3 (a .down) _ _ (sizes c .3) refl refl
 
-words-per-row-requires : tie.Need-words-per-row-requires
-words-per-row-requires c κs = search needs
-
 mul-size : tie.Need-mul-size
 mul-size c = record { fits = omega (arith, sizes c) }
 
@@ -118,12 +115,6 @@ add-count c = record { fits = omega (arith, sizes c) }
 mul-count : tie.Need-mul-count
 mul-count c = record { fits = omega (arith, sizes c) }
 
-sub-count : tie.Need-sub-count
-sub-count c = search needs
-
-part-count-start : tie.Need-part-count-start
-part-count-start c = search needs
-
 part-count-end : tie.Need-part-count-end
 part-count-end c = omega (arith, sizes c)
 
@@ -132,12 +123,6 @@ add-count-2 c = record { fits = omega (arith, sizes (c .before)) }
 
 mul-count-2 : tie.Need-mul-count-2
 mul-count-2 c = record { fits = omega (arith, sizes (c .before)) }
-
-sub-count-2 : tie.Need-sub-count-2
-sub-count-2 c = search needs
-
-part-count-start-2 : tie.Need-part-count-start-2
-part-count-start-2 c = search needs
 
 part-count-end-2 : tie.Need-part-count-end-2
 part-count-end-2 c = omega (arith, sizes (c .before))
@@ -148,12 +133,6 @@ add-count-3 c = record { fits = omega (arith, sizes (c .before .before)) }
 mul-count-3 : tie.Need-mul-count-3
 mul-count-3 c = record { fits = omega (arith, sizes (c .before .before)) }
 
-sub-count-3 : tie.Need-sub-count-3
-sub-count-3 c = search needs
-
-part-count-start-3 : tie.Need-part-count-start-3
-part-count-start-3 c = search needs
-
 part-count-end-3 : tie.Need-part-count-end-3
 part-count-end-3 c = omega (arith, sizes (c .before .before))
 
@@ -162,12 +141,6 @@ add-count-4 c = record { fits = omega (arith, sizes (c .before .before .before))
 
 mul-count-4 : tie.Need-mul-count-4
 mul-count-4 c = record { fits = omega (arith, sizes (c .before .before .before)) }
-
-sub-count-4 : tie.Need-sub-count-4
-sub-count-4 c = search needs
-
-part-count-start-4 : tie.Need-part-count-start-4
-part-count-start-4 c = search needs
 
 part-count-end-4 : tie.Need-part-count-end-4
 part-count-end-4 c = omega (arith, sizes (c .before .before .before))
@@ -205,7 +178,7 @@ pub band-disagreeing-spec : {M : Type 1} → statement M
 band-disagreeing-spec =
     tie.close
     (tie.spec
-    words-per-row-requires
+    (λ c κs. search needs)
     mul-size
     mul-len
     mul-first
@@ -218,23 +191,23 @@ band-disagreeing-spec =
     add-fourth
     add-count
     mul-count
-    sub-count
-    part-count-start
+    (λ c. search needs)
+    (λ c. search needs)
     part-count-end
     add-count-2
     mul-count-2
-    sub-count-2
-    part-count-start-2
+    (λ c. search needs)
+    (λ c. search needs)
     part-count-end-2
     add-count-3
     mul-count-3
-    sub-count-3
-    part-count-start-3
+    (λ c. search needs)
+    (λ c. search needs)
     part-count-end-3
     add-count-4
     mul-count-4
-    sub-count-4
-    part-count-start-4
+    (λ c. search needs)
+    (λ c. search needs)
     part-count-end-4
     count-requires
     returns)

@@ -19,12 +19,6 @@ accepts a w h n p q e = sides-skip a w h _ (p, q) (skip a _ [] (ne-eqb (n % 2) 1
 same : {A : Type 0} {a b : A} → accepted a ≡ accepted b → a ≡ b
 same e = cc
 
-common-crop-requires : tie.Need-common-crop-requires
-common-crop-requires c κs = search needs
-
-enum-known-crop : tie.Need-enum-known-crop
-enum-known-crop c = search needs
-
 enum-told : tie.Need-enum-told
 enum-told c = search needs
 
@@ -39,4 +33,4 @@ returns-2 c =
     not-both (accepts _ _ _ _ (s .pre .0) (s .pre .1) (s .pre .2) ∙ sym (c .before .before .common-crop .ensures) ∙ ap cropAnswer (c .enum-told .given .1))
 
 pub crop-of-spec : {M : Type 1} → statement M
-crop-of-spec = tie.close (tie.spec common-crop-requires enum-known-crop enum-told returns returns-2)
+crop-of-spec = tie.close (tie.spec (λ c κs. search needs) (λ c. search needs) enum-told returns returns-2)

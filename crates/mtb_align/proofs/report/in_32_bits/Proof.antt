@@ -13,23 +13,14 @@ use Rattle.mtb_align.proofs.report.in_32_bits.Tie as tie
 below-is : (c : tie.After-below) → c .below .result ≡ behind (c .before .args .coordinate)
 below-is c = c .below .ensures ∙ ap behind (toZ-ofZ (c .before .fits .coordinate))
 
-below-requires : tie.Need-below-requires
-below-requires c κs = search needs
-
 sub-result : tie.Need-sub-result
 sub-result c = omega (arith, below-is (c .before), part32 _ (c .before .before .fits .coordinate))
-
-cast-result : tie.Need-cast-result
-cast-result c = search needs
 
 returns : tie.Need-returns
 returns c =
     let z = c .before .before .args .coordinate in
     let e = below-is (c .before) in
     ap (λ (n : ℕ). 4294967296 - n) e ∙ sym (complement-below z (omega (arith, e, c .if1 .taken)))
-
-above-requires : tie.Need-above-requires
-above-requires c κs = search needs
 
 cast-result-2 : tie.Need-cast-result-2
 cast-result-2 c =
@@ -44,4 +35,4 @@ returns-2 c =
 pub in-32-bits-spec : {M : Type 1} → statement M
 in-32-bits-spec =
     tie.close
-    (tie.spec below-requires sub-result cast-result returns above-requires cast-result-2 returns-2)
+    (tie.spec (λ c κs. search needs) sub-result (λ c. search needs) returns (λ c κs. search needs) cast-result-2 returns-2)

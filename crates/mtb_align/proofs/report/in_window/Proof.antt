@@ -42,26 +42,14 @@ module _ (z : ℤ) (r : ℕ) (near : natAbs z ≤ 65536) (short : r ≤ 64) wher
     sum-read : toZ w32 (ofZ w32 (toZ w32 (ofZ w32 (toZ w32 (ofZ w32 z) -ℤ toZ w32 r)) +ℤ toZ w32 i)) ≡ (z -ℤ pos r) +ℤ pos i
     sum-read = read sum-is sum-fits
 
-cast-t5 : tie.Need-cast-t5
-cast-t5 c = search needs
-
 sub-t6 : tie.Need-sub-t6
 sub-t6 c = let s = c .before .before in low-held (s .args .centre .x) _ (s .pre .0 .across) (s .pre .1)
-
-cast-t7 : tie.Need-cast-t7
-cast-t7 c = search needs
 
 add-t8 : tie.Need-add-t8
 add-t8 c = let s = c .before .before in sum-held (s .args .centre .x) _ (s .pre .0 .across) (s .pre .1) _ (s .pre .2)
 
-cast-t9 : tie.Need-cast-t9
-cast-t9 c = search needs
-
 sub-t10 : tie.Need-sub-t10
 sub-t10 c = let s = c .before .before .before .before in low-held (s .args .centre .y) _ (s .pre .0 .down) (s .pre .1)
-
-cast-t11 : tie.Need-cast-t11
-cast-t11 c = search needs
 
 add-t12 : tie.Need-add-t12
 add-t12 c = let s = c .before .before .before .before in sum-held (s .args .centre .y) _ (s .pre .0 .down) (s .pre .1) _ (s .pre .3)
@@ -77,4 +65,4 @@ returns c =
 
 pub in-window-spec : {M : Type 1} → statement M
 in-window-spec =
-    tie.close (tie.spec cast-t5 sub-t6 cast-t7 add-t8 cast-t9 sub-t10 cast-t11 add-t12 returns)
+    tie.close (tie.spec (λ c. search needs) sub-t6 (λ c. search needs) add-t8 (λ c. search needs) sub-t10 (λ c. search needs) add-t12 returns)

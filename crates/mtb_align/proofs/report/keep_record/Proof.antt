@@ -21,9 +21,6 @@ add-if1 c = record { fits = omega (arith, c .before .pre .0) }
 put-record-requires : tie.Need-put-record-requires
 put-record-requires c κs = let s = c .before .before .before in (omega (arith, c .before .if1 .taken), s .pre .1, s .pre .2, s .pre .3)
 
-same-length : tie.Need-same-length
-same-length c = search needs
-
 returns : tie.Need-returns
 returns c = let s = c .before .before .before .before .before .before in
     c .before .before .put-record .ensures
@@ -33,4 +30,4 @@ returns-2 : tie.Need-returns-2
 returns-2 c = let s = c .before .before in sym (kept-over (s .args .space .now) (s .args .number) (omega (arith, c .if1 .left)) (recordBytes (named s)))
 
 pub keep-record-spec : {M : Type 1} → statement M
-keep-record-spec = tie.close (tie.spec mul-at add-if1 put-record-requires same-length returns returns-2)
+keep-record-spec = tie.close (tie.spec mul-at add-if1 put-record-requires (λ c. search needs) returns returns-2)

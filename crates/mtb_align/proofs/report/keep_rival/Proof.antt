@@ -18,17 +18,8 @@ named s = let a = s .args in record { frame = a .frame; shift = shiftIn (a .shif
 by : (s : tie.Start) {t u r : Bool} {new : List ℕ} {next : ℕ} → r ≡ t → r ≡ u → Kept (s .args .space .now) (s .args .number) (cond t (named s ∷ []) []) new next → Kept (s .args .space .now) (s .args .number) (cond u (named s ∷ []) []) new next
 by s {new = new} {next = next} p q k = subst (λ (b : Bool). Kept (s .args .space .now) (s .args .number) (cond b (named s ∷ []) []) new next) (sym p ∙ q) k
 
-is-rival-requires : tie.Need-is-rival-requires
-is-rival-requires c κs = search needs
-
-keep-record-requires : tie.Need-keep-record-requires
-keep-record-requires c κs = search needs
-
 add-result : tie.Need-add-result
 add-result c = record { fits = omega (arith, c .before .before .before .before .before .before .before .pre .0) }
-
-same-length : tie.Need-same-length
-same-length c = search needs
 
 returns : tie.Need-returns
 returns c =
@@ -41,4 +32,4 @@ returns-2 c = let s = c .before .before .before in by s (c .if1 .left) (c .befor
 pub keep-rival-spec : {M : Type 1} → statement M
 keep-rival-spec =
     tie.close
-    (tie.spec is-rival-requires keep-record-requires add-result same-length returns returns-2)
+    (tie.spec (λ c κs. search needs) (λ c κs. search needs) add-result (λ c. search needs) returns returns-2)

@@ -8,14 +8,8 @@ use Rattle.laws.specs.ChecksStack.{neighbour-below, neighbour-above}
 use Rattle.mtb_align.proofs.report.neighbour_of.Statement.{statement}
 use Rattle.mtb_align.proofs.report.neighbour_of.Tie as tie
 
-add-result : tie.Need-add-result
-add-result c = search needs
-
 returns : tie.Need-returns
 returns c = let a = c .before .args in add-one (a .k) ∙ sym (neighbour-below (a .reference) (a .k) (c .if1 .taken))
-
-sub-result : tie.Need-sub-result
-sub-result c = search needs
 
 returns-2 : tie.Need-returns-2
 returns-2 c = let a = c .before .before .args in sym (neighbour-above (a .reference) (a .k) (c .if2 .taken))
@@ -27,4 +21,4 @@ returns-3 c =
     simp (le-ltb (a .k) (a .reference) (c .before .if1 .left), le-ltb (a .reference) (a .k) (c .if2 .left))
 
 pub neighbour-of-spec : {M : Type 1} → statement M
-neighbour-of-spec = tie.close (tie.spec add-result returns sub-result returns-2 returns-3)
+neighbour-of-spec = tie.close (tie.spec (λ c. search needs) returns (λ c. search needs) returns-2 returns-3)

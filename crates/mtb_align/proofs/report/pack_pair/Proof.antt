@@ -10,45 +10,9 @@ use Rattle.mtb_align.specs.Search.{exposureOf, fourOf}
 use Rattle.mtb_align.proofs.report.pack_pair.Statement.{statement}
 use Rattle.mtb_align.proofs.report.pack_pair.Tie as tie
 
-mul-size : tie.Need-mul-size
-mul-size c = search needs
-
-mul-start : tie.Need-mul-start
-mul-start c = search needs
-
-add-end : tie.Need-add-end
-add-end c = search needs
-
-mul-target : tie.Need-mul-target
-mul-target c = search needs
-
-add-target-end : tie.Need-add-target-end
-add-target-end c = search needs
-
-sub-pack-both : tie.Need-sub-pack-both
-sub-pack-both c = search needs
-
-part-pack-both-start : tie.Need-part-pack-both-start
-part-pack-both-start c = search needs
-
-part-pack-both-end : tie.Need-part-pack-both-end
-part-pack-both-end c = search needs
-
-sub-pack-both-2 : tie.Need-sub-pack-both-2
-sub-pack-both-2 c = search needs
-
-part-pack-both-start-2 : tie.Need-part-pack-both-start-2
-part-pack-both-start-2 c = search needs
-
-part-pack-both-end-2 : tie.Need-part-pack-both-end-2
-part-pack-both-end-2 c = search needs
-
 pack-both-requires : tie.Need-pack-both-requires
 unfolding stepWords
 pack-both-requires c κs = search needs
-
-same-length : tie.Need-same-length
-same-length c = search needs
 
 returns : tie.Need-returns
 returns c =
@@ -65,17 +29,17 @@ pub pack-pair-spec : {M : Type 1} → statement M
 pack-pair-spec =
     tie.close
     (tie.spec
-    mul-size
-    mul-start
-    add-end
-    mul-target
-    add-target-end
-    sub-pack-both
-    part-pack-both-start
-    part-pack-both-end
-    sub-pack-both-2
-    part-pack-both-start-2
-    part-pack-both-end-2
+    (λ c. search needs)
+    (λ c. search needs)
+    (λ c. search needs)
+    (λ c. search needs)
+    (λ c. search needs)
+    (λ c. search needs)
+    (λ c. search needs)
+    (λ c. search needs)
+    (λ c. search needs)
+    (λ c. search needs)
+    (λ c. search needs)
     pack-both-requires
-    same-length
+    (λ c. search needs)
     returns)

@@ -25,20 +25,11 @@ whole : (s : tie.Start) → sets (s .args .verdicts .now) 0 (verdicts (stack s) 
 unfolding verdicts
 whole s = sets-whole (s .args .verdicts .now) (verdicts (stack s) (termsIn (s .args .terms))) (build-length _ _ ∙ sym (s .pre .1 .1 .0))
 
-mul-bytes : tie.Need-mul-bytes
-mul-bytes c = search needs
-
 copy-run-requires : tie.Need-copy-run-requires
 copy-run-requires c κs = let s = c .before .before .before .before .before .before .before .before in (omega (arith, s .pre .1 .0 .1 .long), omega (arith, s .pre .1 .1 .0))
 
 copy-run-requires-2 : tie.Need-copy-run-requires-2
 copy-run-requires-2 c κs = let s = c .before .before .before .before .before .before .before .before .before .before .before .before in (omega (arith, c .before .before .before .before .before .if1 .taken), omega (arith, s .pre .1 .1 .1))
-
-same-length : tie.Need-same-length
-same-length c = search needs
-
-same-length-2 : tie.Need-same-length-2
-same-length-2 c = search needs
 
 returns : tie.Need-returns
 returns c =
@@ -55,15 +46,6 @@ returns c =
 survey-frames-requires : tie.Need-survey-frames-requires
 survey-frames-requires c κs = let s = c .before .before .before .before .before .before .before .before .before .before in (s .pre .0, (s .pre .1 .0 .0, omega (arith, s .pre .1 .1 .0)))
 
-same-length-3 : tie.Need-same-length-3
-same-length-3 c = search needs
-
-same-length-4 : tie.Need-same-length-4
-same-length-4 c = search needs
-
-same-length-5 : tie.Need-same-length-5
-same-length-5 c = search needs
-
 returns-2 : tie.Need-returns-2
 returns-2 c =
     let s = c .before .before .before .before .before .before .before .before .before .before .before .before .before .before .before .before .before in
@@ -76,14 +58,14 @@ pub put-found-spec : {M : Type 1} → statement M
 put-found-spec =
     tie.close
     (tie.spec
-    mul-bytes
+    (λ c. search needs)
     copy-run-requires
     copy-run-requires-2
-    same-length
-    same-length-2
+    (λ c. search needs)
+    (λ c. search needs)
     returns
     survey-frames-requires
-    same-length-3
-    same-length-4
-    same-length-5
+    (λ c. search needs)
+    (λ c. search needs)
+    (λ c. search needs)
     returns-2)

@@ -18,44 +18,17 @@ four : (l : List ℕ) (at a b c d : ℕ) {i j k : ℕ} → i ≡ suc at → j �
     → set (set (set (set l at a) i b) j c) k d ≡ sets l at (a ∷ b ∷ c ∷ d ∷ [])
 four l at a b c d p q r = rw (p, q, r)
 
-cast-space : tie.Need-cast-space
-cast-space c = search needs
-
-slice-write-space : tie.Need-slice-write-space
-slice-write-space c = search needs
-
-cast-space-2 : tie.Need-cast-space-2
-cast-space-2 c = search needs
-
-add-space : tie.Need-add-space
-add-space c = search needs
-
 slice-write-space-2 : tie.Need-slice-write-space-2
 slice-write-space-2 c = omega (arith, c .pre, length-set (c .args .space .now) (c .args .at) (c .args .value % 256))
 
-cast-space-3 : tie.Need-cast-space-3
-cast-space-3 c = search needs
-
-add-space-2 : tie.Need-add-space-2
-add-space-2 c = search needs
-
 slice-write-space-3 : tie.Need-slice-write-space-3
 slice-write-space-3 c = omega (arith, c .pre, long (c .args .space .now) (c .args .at) (c .args .value % 256) (c .args .value / 256 % 256))
-
-cast-space-4 : tie.Need-cast-space-4
-cast-space-4 c = search needs
-
-add-space-3 : tie.Need-add-space-3
-add-space-3 c = search needs
 
 slice-write-space-4 : tie.Need-slice-write-space-4
 slice-write-space-4 c =
     let a = c .args in
     let l = set (set (a .space .now) (a .at) (a .value % 256)) (a .at + 1) (a .value / 256 % 256) in
     omega (arith, c .pre, length-set l (a .at + 2) (a .value / 65536 % 256), long (a .space .now) (a .at) (a .value % 256) (a .value / 256 % 256))
-
-same-length : tie.Need-same-length
-same-length c = search needs
 
 returns : tie.Need-returns
 unfolding bytes32
@@ -70,16 +43,16 @@ pub put-number-spec : {M : Type 1} → statement M
 put-number-spec =
     tie.close
     (tie.spec
-    cast-space
-    slice-write-space
-    cast-space-2
-    add-space
+    (λ c. search needs)
+    (λ c. search needs)
+    (λ c. search needs)
+    (λ c. search needs)
     slice-write-space-2
-    cast-space-3
-    add-space-2
+    (λ c. search needs)
+    (λ c. search needs)
     slice-write-space-3
-    cast-space-4
-    add-space-3
+    (λ c. search needs)
+    (λ c. search needs)
     slice-write-space-4
-    same-length
+    (λ c. search needs)
     returns)

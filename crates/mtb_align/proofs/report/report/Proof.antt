@@ -46,9 +46,6 @@ held : (c : tie.After-enum-told)
     SurveyInOrder (a .widths .now) (a .heights .now) (a .options .percentile) (a .reference) (a .options .bits) (length (a .samples .now)) (length (a .shifts .now)) (length (a .verdicts .now)) (a .terms .reach) (length (a .bytes .now)) (length (a .words .now))
 held c = survey-in-order _ _ _ _ _ _ _ _ _ _ _ (passes c)
 
-report-fits-requires : tie.Need-report-fits-requires
-report-fits-requires c κs = search needs
-
 enum-told : tie.Need-enum-told
 enum-told c = search needs
 
@@ -57,33 +54,6 @@ shared-slice-read-width c = omega (arith, held (c .before) .stack .frames .among
 
 shared-slice-read-height : tie.Need-shared-slice-read-height
 shared-slice-read-height c = let f = held (c .before .before) .stack .frames in omega (arith, f .among, f .same)
-
-sub-report-within : tie.Need-sub-report-within
-sub-report-within c = search needs
-
-part-placed-start : tie.Need-part-placed-start
-part-placed-start c = search needs
-
-part-placed-end : tie.Need-part-placed-end
-part-placed-end c = search needs
-
-sub-report-within-2 : tie.Need-sub-report-within-2
-sub-report-within-2 c = search needs
-
-part-judged-start : tie.Need-part-judged-start
-part-judged-start c = search needs
-
-part-judged-end : tie.Need-part-judged-end
-part-judged-end c = search needs
-
-sub-report-within-3 : tie.Need-sub-report-within-3
-sub-report-within-3 c = search needs
-
-part-kept-start : tie.Need-part-kept-start
-part-kept-start c = search needs
-
-part-kept-end : tie.Need-part-kept-end
-part-kept-end c = search needs
 
 report-within-requires : tie.Need-report-within-requires
 report-within-requires c κs =
@@ -96,24 +66,6 @@ report-within-requires c κs =
       ),
       (r .few, q .stack .list, q .judged),
     )
-
-enum-known-error : tie.Need-enum-known-error
-enum-known-error c = search needs
-
-same-length : tie.Need-same-length
-same-length c = search needs
-
-same-length-2 : tie.Need-same-length-2
-same-length-2 c = search needs
-
-same-length-3 : tie.Need-same-length-3
-same-length-3 c = search needs
-
-same-length-4 : tie.Need-same-length-4
-same-length-4 c = search needs
-
-same-length-5 : tie.Need-same-length-5
-same-length-5 c = search needs
 
 returns : tie.Need-returns
 unfolding stackOf
@@ -150,25 +102,25 @@ pub report-spec : {M : Type 1} → statement M
 report-spec =
     tie.close
     (tie.spec
-    report-fits-requires
+    (λ c κs. search needs)
     enum-told
     shared-slice-read-width
     shared-slice-read-height
-    sub-report-within
-    part-placed-start
-    part-placed-end
-    sub-report-within-2
-    part-judged-start
-    part-judged-end
-    sub-report-within-3
-    part-kept-start
-    part-kept-end
+    (λ c. search needs)
+    (λ c. search needs)
+    (λ c. search needs)
+    (λ c. search needs)
+    (λ c. search needs)
+    (λ c. search needs)
+    (λ c. search needs)
+    (λ c. search needs)
+    (λ c. search needs)
     report-within-requires
-    enum-known-error
-    same-length
-    same-length-2
-    same-length-3
-    same-length-4
-    same-length-5
+    (λ c. search needs)
+    (λ c. search needs)
+    (λ c. search needs)
+    (λ c. search needs)
+    (λ c. search needs)
+    (λ c. search needs)
     returns
     returns-2)

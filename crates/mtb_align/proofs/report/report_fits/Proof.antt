@@ -44,9 +44,6 @@ frames-pass c m e =
     let a = c .before .before .before .before .before .args in
     skip-all tt (framesChecks (a .widths .now) (a .heights .now) (a .percentile) (a .reference)) m (sym (passes c)) e
 
-frames-fit-requires : tie.Need-frames-fit-requires
-frames-fit-requires c κs = search needs
-
 enum-told : tie.Need-enum-told
 enum-told c = search needs
 
@@ -66,9 +63,6 @@ returns : tie.Need-returns
 unfolding surveyChecks
 returns c = frames-pass (c .before .before .before) _ (length-stop tt _ _ _ (c .if1 .taken))
 
-mul-if2 : tie.Need-mul-if2
-mul-if2 c = search needs
-
 returns-2 : tie.Need-returns-2
 unfolding surveyChecks
 returns-2 c = frames-pass (c .before .before .before .before) _ (length-skip tt _ _ _ (c .before .if1 .left) (length-stop tt _ _ _ (c .if2 .taken)))
@@ -86,9 +80,6 @@ returns-4 c =
 scratch-fits-requires : tie.Need-scratch-fits-requires
 scratch-fits-requires c κs = let f = held (c .before .before .before .before .before .before) in (f .wide, f .high)
 
-enum-known-error : tie.Need-enum-known-error
-enum-known-error c = search needs
-
 returns-5 : tie.Need-returns-5
 unfolding surveyChecks reachOver
 returns-5 c =
@@ -103,18 +94,18 @@ pub report-fits-spec : {M : Type 1} → statement M
 report-fits-spec =
     tie.close
     (tie.spec
-    frames-fit-requires
+    (λ c κs. search needs)
     enum-told
     shared-slice-read-width
     shared-slice-read-height
     mul-if1
     mul-if1-2
     returns
-    mul-if2
+    (λ c. search needs)
     returns-2
     returns-3
     returns-4
     scratch-fits-requires
-    enum-known-error
+    (λ c. search needs)
     returns-5
     returns-6)

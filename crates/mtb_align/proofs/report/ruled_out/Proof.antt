@@ -15,11 +15,8 @@ on s t = let a = s .args in cond t false (ltb (a .limit) (sampleOf (a .words .no
 returns : tie.Need-returns
 returns c = let s = c .before .before in sym (ap (on s) (c .if1 .taken))
 
-sampled-requires : tie.Need-sampled-requires
-sampled-requires c κs = search needs
-
 returns-2 : tie.Need-returns-2
 returns-2 c = let s = c .before .before .before in ap (ltb (s .args .limit)) (c .sampled .ensures) ∙ sym (ap (on s) (c .before .if1 .left))
 
 pub ruled-out-spec : {M : Type 1} → statement M
-ruled-out-spec = tie.close (tie.spec returns sampled-requires returns-2)
+ruled-out-spec = tie.close (tie.spec returns (λ c κs. search needs) returns-2)

@@ -37,12 +37,6 @@ up-is c = c .above .ensures ∙ ap ahead (toZ-ofZ (told-y (c .before)))
 down-is : (c : tie.After-below) → c .below .result ≡ behind (c .before .before .before .before .before .args .shift .y)
 down-is c = c .below .ensures ∙ ap behind (toZ-ofZ (told-y (c .before .before .before)))
 
-above-requires : tie.Need-above-requires
-above-requires c κs = search needs
-
-below-requires : tie.Need-below-requires
-below-requires c κs = search needs
-
 add-if1 : tie.Need-add-if1
 add-if1 c = record { fits = omega (arith, up-is (c .before .before), down-is c, part32 _ (told-y (c .before .before .before))) }
 
@@ -53,15 +47,6 @@ returns c =
     let l = c .if1 .taken in
     band-none (a .width) (mapAt (a .words .now) (a .width) (a .height) 0) (mapAt (a .words .now) (a .width) (a .height) 1) (mapAt (a .words .now) (a .width) (a .height) 2) (mapAt (a .words .now) (a .width) (a .height) 3) (shiftIn (a .shift)) _
     (omega (arith, l, up-is (c .before .before .before), down-is (c .before)))
-
-add-band-disagreeing : tie.Need-add-band-disagreeing
-add-band-disagreeing c = search needs
-
-sub-band-disagreeing : tie.Need-sub-band-disagreeing
-sub-band-disagreeing c = search needs
-
-band-disagreeing-requires : tie.Need-band-disagreeing-requires
-band-disagreeing-requires c κs = search needs
 
 returns-2 : tie.Need-returns-2
 unfolding sampleOf bandDisagreeing
@@ -76,11 +61,11 @@ pub sampled-spec : {M : Type 1} → statement M
 sampled-spec =
     tie.close
     (tie.spec
-    above-requires
-    below-requires
+    (λ c κs. search needs)
+    (λ c κs. search needs)
     add-if1
     returns
-    add-band-disagreeing
-    sub-band-disagreeing
-    band-disagreeing-requires
+    (λ c. search needs)
+    (λ c. search needs)
+    (λ c κs. search needs)
     returns-2)

@@ -39,9 +39,6 @@ step-between-requires c κs =
     let at = placed-near (a .width) (a .height) (a .n) (a .samples .now) (a .reference) (a .options) (s .pre .1) (f .wide) (f .high) (f .few) (s .pre .0 .0) in
     ((omega (arith, near, s .pre .1 .long), omega (arith, s .pre .0 .1, s .pre .1 .long)), (at _ near, at _ (s .pre .0 .1)))
 
-same-length : tie.Need-same-length
-same-length c = search needs
-
 returns : tie.Need-returns
 returns c =
     let s = c .before .before .before .before .before .before .before .before in
@@ -55,4 +52,4 @@ returns c =
 pub sight-spec : {M : Type 1} → statement M
 sight-spec =
     tie.close
-    (tie.spec neighbour-of-requires pack-pair-requires step-between-requires same-length returns)
+    (tie.spec neighbour-of-requires pack-pair-requires step-between-requires (λ c. search needs) returns)

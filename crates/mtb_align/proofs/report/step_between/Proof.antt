@@ -33,50 +33,8 @@ module _ (a b : ℤ) (p : natAbs a ≤ 1048576) (q : natAbs b ≤ 1048576) where
   less-read : toZ w32 (ofZ w32 (toZ w32 (ofZ w32 a) -ℤ toZ w32 (ofZ w32 b))) ≡ a -ℤ b
   less-read = read less-is less-fits
 
-mul-t4 : tie.Need-mul-t4
-mul-t4 c = search needs
-
-mul-t5 : tie.Need-mul-t5
-mul-t5 c = search needs
-
-shared-slice-copy-out-t7 : tie.Need-shared-slice-copy-out-t7
-shared-slice-copy-out-t7 c = search needs
-
-mul-t8 : tie.Need-mul-t8
-mul-t8 c = search needs
-
-mul-t9 : tie.Need-mul-t9
-mul-t9 c = search needs
-
-shared-slice-copy-out-t11 : tie.Need-shared-slice-copy-out-t11
-shared-slice-copy-out-t11 c = search needs
-
 sub-t12 : tie.Need-sub-t12
 sub-t12 c = let s = c .before .before in less-held (getD (s .args .shifts .now) (2 * s .args .k) (pos 0)) (getD (s .args .shifts .now) (2 * s .args .near) (pos 0)) (s .pre .1 .1 .across) (s .pre .1 .0 .across)
-
-mul-t13 : tie.Need-mul-t13
-mul-t13 c = search needs
-
-add-t14 : tie.Need-add-t14
-add-t14 c = search needs
-
-mul-t15 : tie.Need-mul-t15
-mul-t15 c = search needs
-
-shared-slice-copy-out-t17 : tie.Need-shared-slice-copy-out-t17
-shared-slice-copy-out-t17 c = search needs
-
-mul-t18 : tie.Need-mul-t18
-mul-t18 c = search needs
-
-add-t19 : tie.Need-add-t19
-add-t19 c = search needs
-
-mul-t20 : tie.Need-mul-t20
-mul-t20 c = search needs
-
-shared-slice-copy-out-t22 : tie.Need-shared-slice-copy-out-t22
-shared-slice-copy-out-t22 c = search needs
 
 sub-t23 : tie.Need-sub-t23
 sub-t23 c = let s = c .before .before .before .before in less-held (getD (s .args .shifts .now) (2 * s .args .k + 1) (pos 0)) (getD (s .args .shifts .now) (2 * s .args .near + 1) (pos 0)) (s .pre .1 .1 .down) (s .pre .1 .0 .down)
@@ -93,20 +51,20 @@ pub step-between-spec : {M : Type 1} → statement M
 step-between-spec =
     tie.close
     (tie.spec
-    mul-t4
-    mul-t5
-    shared-slice-copy-out-t7
-    mul-t8
-    mul-t9
-    shared-slice-copy-out-t11
+    (λ c. search needs)
+    (λ c. search needs)
+    (λ c. search needs)
+    (λ c. search needs)
+    (λ c. search needs)
+    (λ c. search needs)
     sub-t12
-    mul-t13
-    add-t14
-    mul-t15
-    shared-slice-copy-out-t17
-    mul-t18
-    add-t19
-    mul-t20
-    shared-slice-copy-out-t22
+    (λ c. search needs)
+    (λ c. search needs)
+    (λ c. search needs)
+    (λ c. search needs)
+    (λ c. search needs)
+    (λ c. search needs)
+    (λ c. search needs)
+    (λ c. search needs)
     sub-t23
     returns)

@@ -37,9 +37,6 @@ named s = refl
 slice-write-judged : tie.Need-slice-write-judged
 slice-write-judged c = let s = c .before .before .before .before .before in omega (arith, s .pre .0 .1, s .pre .1 .1)
 
-same-length : tie.Need-same-length
-same-length c = search needs
-
 returns : tie.Need-returns
 unfolding frameRecords recordsOf
 returns c =
@@ -136,12 +133,6 @@ mul-end c = record { fits = omega (arith, few c) }
 mul-end-2 : tie.Need-mul-end-2
 mul-end-2 c = record { fits = omega (arith, few c) }
 
-sub-survey-pair : tie.Need-sub-survey-pair
-sub-survey-pair c = search needs
-
-part-survey-pair-start : tie.Need-part-survey-pair-start
-part-survey-pair-start c = search needs
-
 part-survey-pair-end : tie.Need-part-survey-pair-end
 part-survey-pair-end c = omega (arith, end-fits (c .before))
 
@@ -159,20 +150,8 @@ added c = let w = c .before .before .before .before in c .survey-pair .ensures .
 sub-verdict-of : tie.Need-sub-verdict-of
 sub-verdict-of c = omega (arith, added (c .before .before))
 
-cast-verdict-of : tie.Need-cast-verdict-of
-cast-verdict-of c = search needs
-
-verdict-of-requires : tie.Need-verdict-of-requires
-verdict-of-requires c κs = search needs
-
 slice-write-judged-2 : tie.Need-slice-write-judged-2
 slice-write-judged-2 c = let s = c .before .before .before .before .before .before .before .before .before .before .before .before .before .before .before .before .before .before in omega (arith, s .pre .0 .1, s .pre .1 .1)
-
-same-length-2 : tie.Need-same-length-2
-same-length-2 c = search needs
-
-same-length-3 : tie.Need-same-length-3
-same-length-3 c = search needs
 
 same-length-4 : tie.Need-same-length-4
 same-length-4 c = free (c .before .before .before .before .before .before .before .before) .long
@@ -200,21 +179,21 @@ survey-frame-spec =
     tie.close
     (tie.spec
     slice-write-judged
-    same-length
+    (λ c. search needs)
     returns
     sight-requires
     words-per-row-requires
     mul-end
     mul-end-2
-    sub-survey-pair
-    part-survey-pair-start
+    (λ c. search needs)
+    (λ c. search needs)
     part-survey-pair-end
     survey-pair-requires
     sub-verdict-of
-    cast-verdict-of
-    verdict-of-requires
+    (λ c. search needs)
+    (λ c κs. search needs)
     slice-write-judged-2
-    same-length-2
-    same-length-3
+    (λ c. search needs)
+    (λ c. search needs)
     same-length-4
     returns-2)

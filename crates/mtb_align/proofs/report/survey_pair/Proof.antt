@@ -12,18 +12,6 @@ use Rattle.mtb_align.proofs.Surveyed.{counted-few}
 use Rattle.mtb_align.proofs.report.survey_pair.Statement.{statement}
 use Rattle.mtb_align.proofs.report.survey_pair.Tie as tie
 
-counts-at-requires : tie.Need-counts-at-requires
-counts-at-requires c κs = search needs
-
-cast-survey : tie.Need-cast-survey
-cast-survey c = search needs
-
-cast-survey-2 : tie.Need-cast-survey-2
-cast-survey-2 c = search needs
-
-cast-survey-3 : tie.Need-cast-survey-3
-cast-survey-3 c = search needs
-
 add-survey : tie.Need-add-survey
 add-survey c =
     let s = c .before .before .before .before .before .before .before in
@@ -32,9 +20,6 @@ add-survey c =
 
 survey-requires : tie.Need-survey-requires
 survey-requires c κs = c .before .before .before .before .before .before .before .before .pre
-
-same-length : tie.Need-same-length
-same-length c = search needs
 
 returns : tie.Need-returns
 returns c =
@@ -51,11 +36,11 @@ pub survey-pair-spec : {M : Type 1} → statement M
 survey-pair-spec =
     tie.close
     (tie.spec
-    counts-at-requires
-    cast-survey
-    cast-survey-2
-    cast-survey-3
+    (λ c κs. search needs)
+    (λ c. search needs)
+    (λ c. search needs)
+    (λ c. search needs)
     add-survey
     survey-requires
-    same-length
+    (λ c. search needs)
     returns)

@@ -38,13 +38,10 @@ keep-rival-requires c κs =
     let few = counted-few (s .pre .0) _ _ (c .before .counts-at .ensures) in
     (s .pre .2, s .pre .1, omega (arith, few .0), omega (arith, few .1))
 
-same-length : tie.Need-same-length
-same-length c = search needs
-
 returns-2 : tie.Need-returns-2
 returns-2 c = rival-kept _ _ _ _ _ (c .before .before .before .before .counts-at .ensures) (c .before .before .keep-rival .ensures)
 
 pub survey-shift-spec : {M : Type 1} → statement M
 survey-shift-spec =
     tie.close
-    (tie.spec ruled-out-requires returns counts-at-requires keep-rival-requires same-length returns-2)
+    (tie.spec ruled-out-requires returns counts-at-requires keep-rival-requires (λ c. search needs) returns-2)

@@ -37,9 +37,6 @@ part c =
     let f : n ≡ 1 * bitmapWords (a .width) (a .height) = omega (arith, e) in
     ap₂ (λ (i j : ℕ). take i (drop j (a .words .now))) d f
 
-words-per-row-requires : tie.Need-words-per-row-requires
-words-per-row-requires c κs = search needs
-
 mul-n : tie.Need-mul-n
 mul-n c = record { fits = omega (arith, size c) }
 
@@ -48,12 +45,6 @@ mul-end c = record { fits = omega (arith, size c) }
 
 mul-ones-in : tie.Need-mul-ones-in
 mul-ones-in c = record { fits = omega (arith, size c) }
-
-sub-ones-in : tie.Need-sub-ones-in
-sub-ones-in c = search needs
-
-part-ones-in-start : tie.Need-part-ones-in-start
-part-ones-in-start c = search needs
 
 part-ones-in-end : tie.Need-part-ones-in-end
 part-ones-in-end c = omega (arith, size c)
@@ -75,12 +66,12 @@ pub too-few-spec : {M : Type 1} → statement M
 too-few-spec =
     tie.close
     (tie.spec
-    words-per-row-requires
+    (λ c κs. search needs)
     mul-n
     mul-end
     mul-ones-in
-    sub-ones-in
-    part-ones-in-start
+    (λ c. search needs)
+    (λ c. search needs)
     part-ones-in-end
     ones-in-requires
     returns)

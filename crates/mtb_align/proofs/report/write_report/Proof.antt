@@ -74,18 +74,6 @@ crop-of-requires c κs =
     let s = c .before .before .before .before .before .before .before .before .before .before .before .before .before .before .before .before .before .before .before .before .before in
     (s .pre .0 .2 .wide, s .pre .0 .2 .high, omega (arith, ap length (c .before .before .copy-shifts .ensures), length-take-le (length (s .args .shifts .now)) (s .args .placed .now) (omega (arith, s .pre .1 .1 .0, s .pre .1 .0 .0 .long)), s .pre .1 .1 .0))
 
-same-length : tie.Need-same-length
-same-length c = search needs
-
-same-length-2 : tie.Need-same-length-2
-same-length-2 c = search needs
-
-same-length-3 : tie.Need-same-length-3
-same-length-3 c = search needs
-
-same-length-4 : tie.Need-same-length-4
-same-length-4 c = search needs
-
 returns-2 : tie.Need-returns-2
 unfolding reportCrop
 returns-2 c =
@@ -113,8 +101,8 @@ write-report-spec =
     put-found-requires
     copy-shifts-requires
     crop-of-requires
-    same-length
-    same-length-2
-    same-length-3
-    same-length-4
+    (λ c. search needs)
+    (λ c. search needs)
+    (λ c. search needs)
+    (λ c. search needs)
     returns-2)

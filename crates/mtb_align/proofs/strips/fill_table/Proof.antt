@@ -14,27 +14,6 @@ use Rattle.mtb_align.proofs.Two.{entry-far-below, entry-near-below, ent
 use Rattle.mtb_align.proofs.strips.fill_table.Statement.{statement}
 use Rattle.mtb_align.proofs.strips.fill_table.Tie as tie
 
-without-requires : tie.Need-without-requires
-without-requires c κs = search needs
-
-smaller-requires : tie.Need-smaller-requires
-smaller-requires c κs = search needs
-
-add-smaller : tie.Need-add-smaller
-add-smaller c = search needs
-
-smaller-requires-2 : tie.Need-smaller-requires-2
-smaller-requires-2 c κs = search needs
-
-add-smaller-2 : tie.Need-add-smaller-2
-add-smaller-2 c = search needs
-
-add-smaller-3 : tie.Need-add-smaller-3
-add-smaller-3 c = search needs
-
-smaller-requires-3 : tie.Need-smaller-requires-3
-smaller-requires-3 c κs = search needs
-
 fill-run-requires : tie.Need-fill-run-requires
 fill-run-requires c κs = (c .before .before .before .before .before .pre, omega arith, omega (arith, c .before .before .before .smaller .ensures))
 
@@ -86,13 +65,13 @@ pub fill-table-spec : {M : Type 1} → statement M
 fill-table-spec =
     tie.close
     (tie.spec
-    without-requires
-    smaller-requires
-    add-smaller
-    smaller-requires-2
-    add-smaller-2
-    add-smaller-3
-    smaller-requires-3
+    (λ c κs. search needs)
+    (λ c κs. search needs)
+    (λ c. search needs)
+    (λ c κs. search needs)
+    (λ c. search needs)
+    (λ c. search needs)
+    (λ c κs. search needs)
     fill-run-requires
     fill-run-requires-2
     fill-run-requires-3

@@ -6,18 +6,6 @@ use Rattle.mtb_align.proofs.Two.{joined-low, joined-high}
 use Rattle.mtb_align.proofs.strips.full.Statement.{statement}
 use Rattle.mtb_align.proofs.strips.full.Tie as tie
 
-half-requires : tie.Need-half-requires
-half-requires c κs = search needs
-
-add-half : tie.Need-add-half
-add-half c = search needs
-
-half-requires-2 : tie.Need-half-requires-2
-half-requires-2 c κs = search needs
-
-join-requires : tie.Need-join-requires
-join-requires c κs = search needs
-
 returns : tie.Need-returns
 returns c =
     let x = c .before .before .before .before .args in
@@ -29,4 +17,4 @@ returns c =
     )
 
 pub full-spec : {M : Type 1} → statement M
-full-spec = tie.close (tie.spec half-requires add-half half-requires-2 join-requires returns)
+full-spec = tie.close (tie.spec (λ c κs. search needs) (λ c. search needs) (λ c κs. search needs) (λ c κs. search needs) returns)

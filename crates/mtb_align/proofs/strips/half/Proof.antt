@@ -26,12 +26,6 @@ abbrev μ-loop : tie.MeasureT-loop
 loop-holds : tie.Need-loop-holds Inv-loop μ-loop
 loop-holds c = (omega arith, two-none _ _ _ _)
 
-add-sum : tie.Need-add-sum Inv-loop μ-loop
-add-sum c = omega arith
-
-shared-slice-read-sum : tie.Need-shared-slice-read-sum Inv-loop μ-loop
-shared-slice-read-sum c = omega arith
-
 cast-sum : tie.Need-cast-sum Inv-loop μ-loop
 cast-sum c = omega (arith, c .shared-slice-known .given (c .before .before .before .args .from + c .before .before .loop .i))
 
@@ -40,9 +34,6 @@ mul-sum c = omega (arith, c .shared-slice-known .given (c .before .before .befor
 
 element-copy-out-sum : tie.Need-element-copy-out-sum Inv-loop μ-loop
 element-copy-out-sum c = omega (arith, c .shared-slice-known .given (c .before .before .before .args .from + c .before .before .loop .i))
-
-shl-sum : tie.Need-shl-sum Inv-loop μ-loop
-shl-sum c = omega arith
 
 add-sum-2 : tie.Need-add-sum-2 Inv-loop μ-loop
 add-sum-2 c =
@@ -55,12 +46,6 @@ add-sum-2 c =
       turn (x .samples .now) (x .table .now) (x .cut) (x .tolerance) (x .from) i (l .loop .sum) (omega arith) (l .before .pre .2) h (l .loop .inv .1),
       two-lt (x .samples .now) (x .cut) (x .tolerance) (x .from) (i + 1) (omega arith),
     )
-
-add-i : tie.Need-add-i Inv-loop μ-loop
-add-i c = omega arith
-
-loop-less : tie.Need-loop-less Inv-loop μ-loop
-loop-less c = omega arith
 
 loop-again : tie.Need-loop-again Inv-loop μ-loop
 loop-again c =
@@ -83,14 +68,14 @@ half-spec =
     Inv-loop
     μ-loop
     loop-holds
-    add-sum
-    shared-slice-read-sum
+    (λ c. omega arith)
+    (λ c. omega arith)
     cast-sum
     mul-sum
     element-copy-out-sum
-    shl-sum
+    (λ c. omega arith)
     add-sum-2
-    add-i
-    loop-less
+    (λ c. omega arith)
+    (λ c. omega arith)
     loop-again
     returns)

@@ -30,9 +30,6 @@ abbrev μ-loop : tie.MeasureT-loop
 fill-table-requires : tie.Need-fill-table-requires Inv-loop μ-loop
 fill-table-requires c κs = refl
 
-add-n : tie.Need-add-n Inv-loop μ-loop
-add-n c = omega arith
-
 loop-holds : tie.Need-loop-holds Inv-loop μ-loop
 loop-holds c =
     let x = c .before .before .before .before .before .args in (
@@ -62,12 +59,6 @@ pack-row-requires c κs =
     let r = row-inside (x .width) (x .height) (l .loop .y) (omega arith) in
     let q = row-inside (wordsPerRow (x .width)) (x .height) (l .loop .y) (omega arith) in
     (omega arith, omega (arith, mul-comm (x .width) (x .height)), c .before .before .before .before .before .fill-table .ensures, omega arith, omega arith)
-
-add-y : tie.Need-add-y Inv-loop μ-loop
-add-y c = omega arith
-
-loop-less : tie.Need-loop-less Inv-loop μ-loop
-loop-less c = omega arith
 
 loop-again : tie.Need-loop-again Inv-loop μ-loop
 unfolding wordsPerRow
@@ -107,13 +98,13 @@ pack-spec =
     Inv-loop
     μ-loop
     fill-table-requires
-    add-n
+    (λ c. omega arith)
     loop-holds
     mul-pack-row
     mul-pack-row-2
     pack-row-requires
-    add-y
-    loop-less
+    (λ c. omega arith)
+    (λ c. omega arith)
     loop-again
     same-length
     same-length-2

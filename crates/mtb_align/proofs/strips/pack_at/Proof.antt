@@ -34,9 +34,6 @@ row-words c =
 fill-table-requires : tie.Need-fill-table-requires Inv-loop μ-loop
 fill-table-requires c κs = refl
 
-add-n : tie.Need-add-n Inv-loop μ-loop
-add-n c = omega arith
-
 mul-behind : tie.Need-mul-behind Inv-loop μ-loop
 unfolding wordsPerRow
 mul-behind c = omega arith
@@ -81,12 +78,6 @@ pack-row-at-requires c κs =
     let q = row-words (c .before .before) in
     (omega arith, omega (arith, mul-comm (x .width) (x .height)), c .before .before .before .before .fill-table .ensures, omega arith, omega arith)
 
-add-y : tie.Need-add-y Inv-loop μ-loop
-add-y c = omega arith
-
-loop-less : tie.Need-loop-less Inv-loop μ-loop
-loop-less c = omega arith
-
 loop-again : tie.Need-loop-again Inv-loop μ-loop
 unfolding wordsPerRow
 loop-again c =
@@ -111,7 +102,7 @@ pack-at-spec =
     Inv-loop
     μ-loop
     fill-table-requires
-    add-n
+    (λ c. omega arith)
     mul-behind
     add-behind
     loop-holds
@@ -121,8 +112,8 @@ pack-at-spec =
     mul-pack-row-at-3
     add-pack-row-at-2
     pack-row-at-requires
-    add-y
-    loop-less
+    (λ c. omega arith)
+    (λ c. omega arith)
     loop-again
     same-length
     returns)

@@ -35,40 +35,16 @@ loop-holds c =
       store-none (x .exclusion .now) (x .at) (wordAt (x .samples .now) (exclusionBit (x .cut) (x .tolerance)) (x .from) (x .width)),
     )
 
-mul-full : tie.Need-mul-full Inv-loop μ-loop
-mul-full c = omega arith
-
-add-full : tie.Need-add-full Inv-loop μ-loop
-add-full c = omega arith
-
 full-requires : tie.Need-full-requires Inv-loop μ-loop
 full-requires c κs = (omega arith, c .before .before .before .before .before .pre .2)
-
-add-threshold : tie.Need-add-threshold Inv-loop μ-loop
-add-threshold c = omega arith
-
-mul-threshold : tie.Need-mul-threshold Inv-loop μ-loop
-mul-threshold c = omega arith
 
 slice-write-threshold : tie.Need-slice-write-threshold Inv-loop μ-loop
 unfolding wordsPerRow
 slice-write-threshold c = omega arith
 
-add-exclusion : tie.Need-add-exclusion Inv-loop μ-loop
-add-exclusion c = omega arith
-
-mul-exclusion : tie.Need-mul-exclusion Inv-loop μ-loop
-mul-exclusion c = omega arith
-
 slice-write-exclusion : tie.Need-slice-write-exclusion Inv-loop μ-loop
 unfolding wordsPerRow
 slice-write-exclusion c = omega arith
-
-add-k : tie.Need-add-k Inv-loop μ-loop
-add-k c = omega arith
-
-loop-less : tie.Need-loop-less Inv-loop μ-loop
-loop-less c = omega arith
 
 loop-again : tie.Need-loop-again Inv-loop μ-loop
 loop-again c =
@@ -97,40 +73,16 @@ returns c =
       row-full (x .samples .now) (exclusionBit (x .cut) (x .tolerance)) (x .from) (x .width) (x .exclusion .now) (x .at) (omega arith) (omega arith) (i .4),
     )
 
-mul-part : tie.Need-mul-part Inv-loop μ-loop
-mul-part c = omega arith
-
-add-part : tie.Need-add-part Inv-loop μ-loop
-add-part c = omega arith
-
 part-requires : tie.Need-part-requires Inv-loop μ-loop
 part-requires c κs = (omega arith, omega arith, c .before .before .before .before .before .before .pre .2)
-
-add-threshold-2 : tie.Need-add-threshold-2 Inv-loop μ-loop
-add-threshold-2 c = omega arith
-
-mul-threshold-2 : tie.Need-mul-threshold-2 Inv-loop μ-loop
-mul-threshold-2 c = omega arith
 
 slice-write-threshold-2 : tie.Need-slice-write-threshold-2 Inv-loop μ-loop
 unfolding wordsPerRow
 slice-write-threshold-2 c = omega arith
 
-add-exclusion-2 : tie.Need-add-exclusion-2 Inv-loop μ-loop
-add-exclusion-2 c = omega arith
-
-mul-exclusion-2 : tie.Need-mul-exclusion-2 Inv-loop μ-loop
-mul-exclusion-2 c = omega arith
-
 slice-write-exclusion-2 : tie.Need-slice-write-exclusion-2 Inv-loop μ-loop
 unfolding wordsPerRow
 slice-write-exclusion-2 c = omega arith
-
-same-length-3 : tie.Need-same-length-3 Inv-loop μ-loop
-same-length-3 c = search needs
-
-same-length-4 : tie.Need-same-length-4 Inv-loop μ-loop
-same-length-4 c = search needs
 
 returns-2 : tie.Need-returns-2 Inv-loop μ-loop
 returns-2 c =
@@ -150,30 +102,30 @@ pack-row-spec =
     Inv-loop
     μ-loop
     loop-holds
-    mul-full
-    add-full
+    (λ c. omega arith)
+    (λ c. omega arith)
     full-requires
-    add-threshold
-    mul-threshold
+    (λ c. omega arith)
+    (λ c. omega arith)
     slice-write-threshold
-    add-exclusion
-    mul-exclusion
+    (λ c. omega arith)
+    (λ c. omega arith)
     slice-write-exclusion
-    add-k
-    loop-less
+    (λ c. omega arith)
+    (λ c. omega arith)
     loop-again
     same-length
     same-length-2
     returns
-    mul-part
-    add-part
+    (λ c. omega arith)
+    (λ c. omega arith)
     part-requires
-    add-threshold-2
-    mul-threshold-2
+    (λ c. omega arith)
+    (λ c. omega arith)
     slice-write-threshold-2
-    add-exclusion-2
-    mul-exclusion-2
+    (λ c. omega arith)
+    (λ c. omega arith)
     slice-write-exclusion-2
-    same-length-3
-    same-length-4
+    (λ c. search needs)
+    (λ c. search needs)
     returns-2)

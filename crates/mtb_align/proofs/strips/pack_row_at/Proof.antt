@@ -26,40 +26,16 @@ loop-holds c =
     let x = c .before .before .args in
     (omega arith, refl, both-none (x .words .now) (x .at) (x .behind) (wordAt (x .samples .now) (thresholdBit (x .cut)) (x .from) (x .width)) (wordAt (x .samples .now) (exclusionBit (x .cut) (x .tolerance)) (x .from) (x .width)))
 
-mul-full : tie.Need-mul-full Inv-loop μ-loop
-mul-full c = omega arith
-
-add-full : tie.Need-add-full Inv-loop μ-loop
-add-full c = omega arith
-
 full-requires : tie.Need-full-requires Inv-loop μ-loop
 full-requires c κs = (omega arith, c .before .before .before .before .pre .2)
-
-add-words : tie.Need-add-words Inv-loop μ-loop
-add-words c = omega arith
-
-mul-words : tie.Need-mul-words Inv-loop μ-loop
-mul-words c = omega arith
 
 slice-write-words : tie.Need-slice-write-words Inv-loop μ-loop
 unfolding wordsPerRow
 slice-write-words c = omega arith
 
-add-words-2 : tie.Need-add-words-2 Inv-loop μ-loop
-add-words-2 c = omega arith
-
-mul-words-2 : tie.Need-mul-words-2 Inv-loop μ-loop
-mul-words-2 c = omega arith
-
 slice-write-words-2 : tie.Need-slice-write-words-2 Inv-loop μ-loop
 unfolding wordsPerRow
 slice-write-words-2 c = rw length-set (omega arith)
-
-add-k : tie.Need-add-k Inv-loop μ-loop
-add-k c = omega arith
-
-loop-less : tie.Need-loop-less Inv-loop μ-loop
-loop-less c = omega arith
 
 loop-again : tie.Need-loop-again Inv-loop μ-loop
 unfolding wordsPerRow
@@ -86,37 +62,16 @@ returns c =
     rows-full (x .samples .now) (thresholdBit (x .cut)) (exclusionBit (x .cut) (x .tolerance)) (x .from) (x .width) (x .words .now) (x .at) (x .behind)
     (omega arith) (omega arith) (l .loop .inv .2)
 
-mul-part : tie.Need-mul-part Inv-loop μ-loop
-mul-part c = omega arith
-
-add-part : tie.Need-add-part Inv-loop μ-loop
-add-part c = omega arith
-
 part-requires : tie.Need-part-requires Inv-loop μ-loop
 part-requires c κs = (omega arith, omega arith, c .before .before .before .before .before .pre .2)
-
-add-words-3 : tie.Need-add-words-3 Inv-loop μ-loop
-add-words-3 c = omega arith
-
-mul-words-3 : tie.Need-mul-words-3 Inv-loop μ-loop
-mul-words-3 c = omega arith
 
 slice-write-words-3 : tie.Need-slice-write-words-3 Inv-loop μ-loop
 unfolding wordsPerRow
 slice-write-words-3 c = omega arith
 
-add-words-4 : tie.Need-add-words-4 Inv-loop μ-loop
-add-words-4 c = omega arith
-
-mul-words-4 : tie.Need-mul-words-4 Inv-loop μ-loop
-mul-words-4 c = omega arith
-
 slice-write-words-4 : tie.Need-slice-write-words-4 Inv-loop μ-loop
 unfolding wordsPerRow
 slice-write-words-4 c = rw length-set (omega arith)
-
-same-length-2 : tie.Need-same-length-2 Inv-loop μ-loop
-same-length-2 c = search needs
 
 returns-2 : tie.Need-returns-2 Inv-loop μ-loop
 unfolding wordsPerRow
@@ -136,28 +91,28 @@ pack-row-at-spec =
     Inv-loop
     μ-loop
     loop-holds
-    mul-full
-    add-full
+    (λ c. omega arith)
+    (λ c. omega arith)
     full-requires
-    add-words
-    mul-words
+    (λ c. omega arith)
+    (λ c. omega arith)
     slice-write-words
-    add-words-2
-    mul-words-2
+    (λ c. omega arith)
+    (λ c. omega arith)
     slice-write-words-2
-    add-k
-    loop-less
+    (λ c. omega arith)
+    (λ c. omega arith)
     loop-again
     same-length
     returns
-    mul-part
-    add-part
+    (λ c. omega arith)
+    (λ c. omega arith)
     part-requires
-    add-words-3
-    mul-words-3
+    (λ c. omega arith)
+    (λ c. omega arith)
     slice-write-words-3
-    add-words-4
-    mul-words-4
+    (λ c. omega arith)
+    (λ c. omega arith)
     slice-write-words-4
-    same-length-2
+    (λ c. search needs)
     returns-2)

@@ -10,12 +10,6 @@ use Rattle.mtb_align.proofs.Two.{two-low, two-high, joined-low, joined-
 use Rattle.mtb_align.proofs.strips.part.Statement.{statement}
 use Rattle.mtb_align.proofs.strips.part.Tie as tie
 
-half-requires : tie.Need-half-requires
-half-requires c κs = search needs
-
-join-requires : tie.Need-join-requires
-join-requires c κs = search needs
-
 returns : tie.Need-returns
 returns c =
     let x = c .before .before .before .before .args in
@@ -23,18 +17,6 @@ returns c =
       omega (arith, c .join .ensures .0, c .before .half .ensures, two-low s (x .cut) (x .tolerance) (x .from) (x .span) (omega arith)),
       omega (arith, c .join .ensures .1, c .before .half .ensures, two-high s (x .cut) (x .tolerance) (x .from) (x .span) (omega arith)),
     )
-
-half-requires-2 : tie.Need-half-requires-2
-half-requires-2 c κs = search needs
-
-add-half : tie.Need-add-half
-add-half c = search needs
-
-half-requires-3 : tie.Need-half-requires-3
-half-requires-3 c κs = search needs
-
-join-requires-2 : tie.Need-join-requires-2
-join-requires-2 c κs = search needs
 
 returns-2 : tie.Need-returns-2
 returns-2 c =
@@ -53,11 +35,11 @@ pub part-spec : {M : Type 1} → statement M
 part-spec =
     tie.close
     (tie.spec
-    half-requires
-    join-requires
+    (λ c κs. search needs)
+    (λ c κs. search needs)
     returns
-    half-requires-2
-    add-half
-    half-requires-3
-    join-requires-2
+    (λ c κs. search needs)
+    (λ c. search needs)
+    (λ c κs. search needs)
+    (λ c κs. search needs)
     returns-2)

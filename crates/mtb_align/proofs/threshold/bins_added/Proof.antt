@@ -47,31 +47,16 @@ long s = s .good .0 .1 .0 .1
 loop-holds : tie.Need-loop-holds Inv-loop μ-loop
 loop-holds c = (omega arith, sym (sum-none _), zero-add _)
 
-cast-result : tie.Need-cast-result Inv-loop μ-loop
-cast-result c = omega arith
-
 returns : tie.Need-returns Inv-loop μ-loop
 returns c =
     let l = c .before .before .loop in
     reached _ _ (l .level) (l .added) (c .if1 .taken) ∙ l .inv .2
-
-mul-added : tie.Need-mul-added Inv-loop μ-loop
-mul-added c = omega arith
-
-array-read-added : tie.Need-array-read-added Inv-loop μ-loop
-array-read-added c = omega arith
 
 add-added : tie.Need-add-added Inv-loop μ-loop
 add-added c =
     let l = c .before .before .loop in
     let s = c .before .before .before in
     omega (arith, sum-more (l .level) (λ i. getD (s .args .t1) i 0), part-le (s .args .t1) (l .level + 1) 256 (omega arith), s .pre)
-
-add-level : tie.Need-add-level Inv-loop μ-loop
-add-level c = omega arith
-
-loop-less : tie.Need-loop-less Inv-loop μ-loop
-loop-less c = omega arith
 
 loop-again : tie.Need-loop-again Inv-loop μ-loop
 loop-again c =
@@ -81,9 +66,6 @@ loop-again c =
       sum-step (l .level) (λ i. getD (s .args .t1) i 0) (l .inv .1) refl,
       turned (s .args .t1) (s .args .goal) (l .level) (l .added) (omega (arith, long s)) (c .if1 .left) ∙ l .inv .2,
     )
-
-cast-result-2 : tie.Need-cast-result-2 Inv-loop μ-loop
-cast-result-2 c = omega arith
 
 returns-2 : tie.Need-returns-2 Inv-loop μ-loop
 returns-2 c =
@@ -98,13 +80,13 @@ bins-added-spec =
     Inv-loop
     μ-loop
     loop-holds
-    cast-result
+    (λ c. omega arith)
     returns
-    mul-added
-    array-read-added
+    (λ c. omega arith)
+    (λ c. omega arith)
     add-added
-    add-level
-    loop-less
+    (λ c. omega arith)
+    (λ c. omega arith)
     loop-again
-    cast-result-2
+    (λ c. omega arith)
     returns-2)

@@ -20,9 +20,6 @@ within c = sides-within _ _ (sym (c .before .side-over .ensures) ∙ c .if1 .lef
 words-are : (c : tie.After-words-per-row) → let a = c .before .before .before .before .before .before .before .args in a .height * c .words-per-row .result ≡ bitmapWords (a .width) (a .height)
 words-are c = ap (λ (n : ℕ). c .before .before .before .before .before .before .before .args .height * n) (c .words-per-row .ensures)
 
-side-over-requires : tie.Need-side-over-requires
-side-over-requires c κs = search needs
-
 returns : tie.Need-returns
 unfolding packingChecks
 returns c = refuses-two _ _ _ _ _ (sides-stop tt _ _ _ (sym (c .before .side-over .ensures) ∙ c .if1 .taken))
@@ -81,12 +78,6 @@ pack-requires c κs =
     let s = within (b .before .before) in
     (s .0, s .1, b .before .if2 .left, c .before .before .before .before .before .if3 .left ∙ words-are b, c .before .before .before .before .if4 .left ∙ words-are b)
 
-same-length : tie.Need-same-length
-same-length c = search needs
-
-same-length-2 : tie.Need-same-length-2
-same-length-2 c = search needs
-
 returns-6 : tie.Need-returns-6
 unfolding packingChecks
 returns-6 c =
@@ -108,7 +99,7 @@ pub compute-bitmaps-spec : {M : Type 1} → statement M
 compute-bitmaps-spec =
     tie.close
     (tie.spec
-    side-over-requires
+    (λ c κs. search needs)
     returns
     mul-if2
     returns-2
@@ -119,6 +110,6 @@ compute-bitmaps-spec =
     returns-5
     cut-of-requires
     pack-requires
-    same-length
-    same-length-2
+    (λ c. search needs)
+    (λ c. search needs)
     returns-6)

@@ -29,41 +29,20 @@ three c =
     let b = c .before .before .before in
     tally-more (two b) lane-2 (small (b .before .before .before .before .before .before)) (omega arith) (omega arith) (c .count-one3 .ensures)
 
-shared-slice-read-count-one : tie.Need-shared-slice-read-count-one
-shared-slice-read-count-one c = search needs
-
 count-one-requires : tie.Need-count-one-requires
 count-one-requires c κs =
     let a = c .before .before in
     tally-fits (a .before .pre .0) lane-0 (small a) (omega arith) (omega arith)
-
-add-count-one : tie.Need-add-count-one
-add-count-one c = search needs
-
-shared-slice-read-count-one-2 : tie.Need-shared-slice-read-count-one-2
-shared-slice-read-count-one-2 c = search needs
 
 count-one-requires-2 : tie.Need-count-one-requires-2
 count-one-requires-2 c κs =
     let b = c .before .before in
     tally-fits (one b) lane-1 (small (b .before .before .before)) (omega arith) (omega arith)
 
-add-count-one-2 : tie.Need-add-count-one-2
-add-count-one-2 c = search needs
-
-shared-slice-read-count-one-3 : tie.Need-shared-slice-read-count-one-3
-shared-slice-read-count-one-3 c = search needs
-
 count-one-requires-3 : tie.Need-count-one-requires-3
 count-one-requires-3 c κs =
     let b = c .before .before in
     tally-fits (two b) lane-2 (small (b .before .before .before .before .before .before)) (omega arith) (omega arith)
-
-add-count-one-3 : tie.Need-add-count-one-3
-add-count-one-3 c = search needs
-
-shared-slice-read-count-one-4 : tie.Need-shared-slice-read-count-one-4
-shared-slice-read-count-one-4 c = search needs
 
 count-one-requires-4 : tie.Need-count-one-requires-4
 count-one-requires-4 c κs =
@@ -79,15 +58,15 @@ pub count-four-spec : {M : Type 1} → statement M
 count-four-spec =
     tie.close
     (tie.spec
-    shared-slice-read-count-one
+    (λ c. search needs)
     count-one-requires
-    add-count-one
-    shared-slice-read-count-one-2
+    (λ c. search needs)
+    (λ c. search needs)
     count-one-requires-2
-    add-count-one-2
-    shared-slice-read-count-one-3
+    (λ c. search needs)
+    (λ c. search needs)
     count-one-requires-3
-    add-count-one-3
-    shared-slice-read-count-one-4
+    (λ c. search needs)
+    (λ c. search needs)
     count-one-requires-4
     returns)

@@ -26,9 +26,6 @@ mul-goal c =
     let s = c .before in
     omega (arith, few s, mul-le-mul-left (length (s .args .samples .now)) (s .pre .3))
 
-histogram-requires : tie.Need-histogram-requires
-histogram-requires c κs = search needs
-
 bins-added-requires : tie.Need-bins-added-requires
 bins-added-requires c κs =
     let s = c .before .before in
@@ -41,4 +38,4 @@ returns c =
     c .bins-added .ensures ∙ ap (λ (l : List ℕ). binsAdded l (target (x .samples .now) (x .percentile)) 0) (c .before .histogram .ensures)
 
 pub cut-of-spec : {M : Type 1} → statement M
-cut-of-spec = tie.close (tie.spec mul-goal histogram-requires bins-added-requires returns)
+cut-of-spec = tie.close (tie.spec mul-goal (λ c κs. search needs) bins-added-requires returns)

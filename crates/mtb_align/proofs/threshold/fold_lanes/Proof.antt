@@ -24,18 +24,6 @@ loop-holds c = (omega arith, store-none (replicate 256 0) 0 (laneTotal (c .args 
 lane-total-requires : tie.Need-lane-total-requires Inv-loop μ-loop
 lane-total-requires c κs = (c .loop-test .taken, c .before .before .pre _ (c .loop-test .taken))
 
-mul-bins : tie.Need-mul-bins Inv-loop μ-loop
-mul-bins c = omega arith
-
-array-write-bins : tie.Need-array-write-bins Inv-loop μ-loop
-array-write-bins c = omega arith
-
-add-v : tie.Need-add-v Inv-loop μ-loop
-add-v c = omega arith
-
-loop-less : tie.Need-loop-less Inv-loop μ-loop
-loop-less c = omega arith
-
 loop-again : tie.Need-loop-again Inv-loop μ-loop
 loop-again c =
     let l = c .before .before .loop in
@@ -59,9 +47,9 @@ fold-lanes-spec =
     μ-loop
     loop-holds
     lane-total-requires
-    mul-bins
-    array-write-bins
-    add-v
-    loop-less
+    (λ c. omega arith)
+    (λ c. omega arith)
+    (λ c. omega arith)
+    (λ c. omega arith)
     loop-again
     returns)

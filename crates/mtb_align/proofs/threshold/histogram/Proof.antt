@@ -44,9 +44,6 @@ loop-holds c = (omega arith, sym (zero-mul _), tally-none _)
 sub-up-to-eight : tie.Need-sub-up-to-eight Inv-loop μ-loop
 sub-up-to-eight c = omega (arith, c .loop-test .taken)
 
-up-to-eight-requires : tie.Need-up-to-eight-requires Inv-loop μ-loop
-up-to-eight-requires c κs = search needs
-
 mul-tally-rows : tie.Need-mul-tally-rows Inv-loop μ-loop
 mul-tally-rows c = omega (arith, few (c .before .before .before .before .before), inside (c .before))
 
@@ -90,7 +87,7 @@ histogram-spec =
     μ-loop
     loop-holds
     sub-up-to-eight
-    up-to-eight-requires
+    (λ c κs. search needs)
     mul-tally-rows
     tally-rows-requires
     mul-from

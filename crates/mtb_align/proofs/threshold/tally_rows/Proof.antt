@@ -24,9 +24,6 @@ abbrev μ-loop2 : tie.MeasureT-loop2
 small : (c : tie.After-shared-slice-known2 Inv-loop μ-loop Inv-loop2 μ-loop2) → Bytes (c .before .before .before .before .before .before .before .args .samples .now)
 small c i h = omega (arith, c .shared-slice-known2 .given i)
 
-add-end : tie.Need-add-end Inv-loop μ-loop Inv-loop2 μ-loop2
-add-end c = omega arith
-
 loop-holds : tie.Need-loop-holds Inv-loop μ-loop Inv-loop2 μ-loop2
 loop-holds c = (omega arith, c .before .pre .0)
 
@@ -35,12 +32,6 @@ sub-loop c = c .loop .inv .0
 
 count-four-requires : tie.Need-count-four-requires Inv-loop μ-loop Inv-loop2 μ-loop2
 count-four-requires c κs = (c .before .before .loop .inv .1, omega arith, omega arith)
-
-add-at : tie.Need-add-at Inv-loop μ-loop Inv-loop2 μ-loop2
-add-at c = omega arith
-
-loop-less : tie.Need-loop-less Inv-loop μ-loop Inv-loop2 μ-loop2
-loop-less c = omega arith
 
 loop-again : tie.Need-loop-again Inv-loop μ-loop Inv-loop2 μ-loop2
 loop-again c = (omega arith, c .count-four .ensures)
@@ -55,12 +46,6 @@ shared-slice-read-count-one c = omega arith
 count-one-requires : tie.Need-count-one-requires Inv-loop μ-loop Inv-loop2 μ-loop2
 count-one-requires c κs =
     tally-fits (c .before .before .before .loop2 .inv .1) lane-0 (small c) (omega arith) (omega arith)
-
-add-at-2 : tie.Need-add-at-2 Inv-loop μ-loop Inv-loop2 μ-loop2
-add-at-2 c = omega arith
-
-loop2-less : tie.Need-loop2-less Inv-loop μ-loop Inv-loop2 μ-loop2
-loop2-less c = omega arith
 
 loop2-again : tie.Need-loop2-again Inv-loop μ-loop Inv-loop2 μ-loop2
 loop2-again c =
@@ -82,17 +67,17 @@ tally-rows-spec =
     μ-loop
     Inv-loop2
     μ-loop2
-    add-end
+    (λ c. omega arith)
     loop-holds
     sub-loop
     count-four-requires
-    add-at
-    loop-less
+    (λ c. omega arith)
+    (λ c. omega arith)
     loop-again
     loop2-holds
     shared-slice-read-count-one
     count-one-requires
-    add-at-2
-    loop2-less
+    (λ c. omega arith)
+    (λ c. omega arith)
     loop2-again
     returns)

@@ -13,9 +13,6 @@ use Rattle.mtb_align.proofs.threshold.threshold.Tie as tie
 within : (c : tie.Else1) → let x = c .before .before .before .args in (x .width ≤ 8192) × (x .height ≤ 8192)
 within c = sides-within _ _ (sym (c .before .side-over .ensures) ∙ c .if1 .left)
 
-side-over-requires : tie.Need-side-over-requires
-side-over-requires c κs = search needs
-
 returns : tie.Need-returns
 unfolding cutChecks
 returns c = sides-stop _ _ _ _ (sym (c .before .side-over .ensures) ∙ c .if1 .taken)
@@ -44,4 +41,4 @@ returns-4 c =
 pub threshold-spec : {M : Type 1} → statement M
 threshold-spec =
     tie.close
-    (tie.spec side-over-requires returns mul-if2 returns-2 returns-3 cut-of-requires returns-4)
+    (tie.spec (λ c κs. search needs) returns mul-if2 returns-2 returns-3 cut-of-requires returns-4)

@@ -10,9 +10,6 @@ use Rattle.mtb_align.specs.Answers.{shiftIn}
 use Rattle.mtb_align.proofs.geometry.Shift.doubled.Statement.{statement}
 use Rattle.mtb_align.proofs.geometry.Shift.doubled.Tie as tie
 
-offset-requires : tie.Need-offset-requires
-offset-requires c κs = search needs
-
 returns : tie.Need-returns
 returns c =
     let s = c .before .before .before .args .self in
@@ -23,4 +20,4 @@ returns c =
     ∙ ap (λ (d : Shift). answer (shiftChecks (offset (shiftIn s) d)) (offset (shiftIn s) d)) (λ i. record { x = toZ-ofZ x i; y = toZ-ofZ y i })
 
 pub doubled-spec : {M : Type 1} → statement M
-doubled-spec = tie.close (tie.spec offset-requires returns)
+doubled-spec = tie.close (tie.spec (λ c κs. search needs) returns)

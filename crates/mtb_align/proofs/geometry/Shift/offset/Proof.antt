@@ -41,21 +41,9 @@ down c =
 down-held : (c : tie.Else2) → (let s = c .before .before .before .before .before .before .before .before .args in not (inI32 (s .self .y +ℤ s .y)) ≡ false)
 down-held c = tested (down (c .before .before)) (c .before .outside-i322 .ensures) (c .if2 .left)
 
-wide-sum-requires : tie.Need-wide-sum-requires
-wide-sum-requires c κs = search needs
-
-outside-i32-requires : tie.Need-outside-i32-requires
-outside-i32-requires c κs = search needs
-
 returns : tie.Need-returns
 unfolding shiftChecks
 returns c = coordinate-stop _ _ _ (tested (across (c .before .before)) (c .before .outside-i32 .ensures) (c .if1 .taken))
-
-wide-sum-requires-2 : tie.Need-wide-sum-requires-2
-wide-sum-requires-2 c κs = search needs
-
-outside-i32-requires-2 : tie.Need-outside-i32-requires-2
-outside-i32-requires-2 c κs = search needs
 
 returns-2 : tie.Need-returns-2
 unfolding shiftChecks
@@ -71,9 +59,6 @@ cast-new c =
 cast-new-2 : tie.Need-cast-new-2
 cast-new-2 c = fit (down (c .before .before)) (held _ (down-held c))
 
-new-requires : tie.Need-new-requires
-new-requires c κs = search needs
-
 returns-3 : tie.Need-returns-3
 unfolding shiftChecks
 returns-3 c =
@@ -88,13 +73,13 @@ pub offset-spec : {M : Type 1} → statement M
 offset-spec =
     tie.close
     (tie.spec
-    wide-sum-requires
-    outside-i32-requires
+    (λ c κs. search needs)
+    (λ c κs. search needs)
     returns
-    wide-sum-requires-2
-    outside-i32-requires-2
+    (λ c κs. search needs)
+    (λ c κs. search needs)
     returns-2
     cast-new
     cast-new-2
-    new-requires
+    (λ c κs. search needs)
     returns-3)
