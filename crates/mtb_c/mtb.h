@@ -10,8 +10,9 @@
  * record space may be longer, and then what lies past the need stays as it was. Pointers are aligned and never null, not at length 0
  * either, and what a call writes overlaps nothing else that it is lent.
  *
- * Slots, such as `x` or `count`, are only written, and only where the call is accepted: they need not be set before. `values` is
- * written at its front by the refusals that carry values (4, 5 and 10), as said below, and else left alone.
+ * Slots, such as `x` or `count`, are never read, so that they need not be set before. They are written only where the call is
+ * accepted; mtb_row and mtb_level, which have no refusal, always write theirs. `values` is written at its front by the refusals that
+ * carry values (4, 5 and 10), as said below, and else left alone.
  *
  * Frames. A frame has width * height samples, row by row, one byte each; a side may be 0. A bitmap has ceil(width / 64) words a
  * row, lowest bit first; the bits of a row past the width are its padding. A stack's frames stand one after another in exposure
@@ -42,7 +43,8 @@ extern "C" {
 
 /* How a search is run, with the usual choice. docs/TERMS.md says how to choose.
    bits         a step reaches 2^bits - 1 pixels on each axis, less on small frames: L is the least of bits - 1, log2(longest side) - 1
-                and log2(shortest side), logarithms rounded down and nothing below 0, and the step lies within 2^(L + 1) - 1. Any number is taken.
+                and log2(shortest side), logarithms rounded down and nothing below 0, or 0 if a side is 0; the step lies within 2^(L + 1) - 1.
+                Any number is taken.
    tolerance    samples within this distance of the cut are not compared.
    percentile   0 to 100: the cut is the least value that has this share of a frame's samples below it. 50 is the median.
    subsampled   how frames are halved: MTB_AVERAGE takes the mean of four samples, MTB_SUBSAMPLE the upper left one. */
