@@ -22,6 +22,16 @@ pub struct Options {
     pub shrink: Shrink,
 }
 
+impl Options {
+    /// The original's own, where nothing else is said.
+    pub const USUAL: Self = Self {
+        bits: 6,
+        tolerance: 4,
+        percentile: 50,
+        shrink: Shrink::Average,
+    };
+}
+
 /// The lengths of the scratch that a caller lends to a step, a stack or a report.
 #[derive(Clone, Copy, Debug, PartialEq, Eq)]
 pub struct Scratch {

@@ -30,6 +30,7 @@ pub const COORDINATE_OUTSIDE: u32 = 12;
 pub const LONGEST_SIDE: usize = 8192;
 pub const MOST_FRAMES: usize = 16;
 pub const FARTHEST_REACH: u32 = 64;
+pub const HIGHEST_PERCENTILE: u8 = 100;
 
 /// One check of a call's list: refuses where `broken` holds.
 pub(crate) fn refuse_if(broken: bool, number: u32) -> Result<(), Refusal> {
@@ -49,5 +50,5 @@ pub(crate) fn check_sides(sides: &[usize]) -> Result<(), Refusal> {
 }
 
 pub(crate) fn check_percentile(percentile: u8) -> Result<(), Refusal> {
-    refuse_if(percentile > 100, NO_PERCENTILE)
+    refuse_if(percentile > HIGHEST_PERCENTILE, NO_PERCENTILE)
 }

@@ -20,6 +20,13 @@ pub struct Rivalry {
     pub margin: u32,
 }
 
+impl Rivalry {
+    /// How many shifts lie within reach.
+    pub const fn window(&self) -> usize {
+        (2 * self.reach as usize + 1).pow(2)
+    }
+}
+
 /// The lengths of the lists that a caller lends to a report.
 #[derive(Clone, Copy, Debug)]
 pub struct Room {

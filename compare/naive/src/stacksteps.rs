@@ -2,16 +2,10 @@
 
 use crate::align::{Options, Scratch, Stack};
 use crate::report::{RECORD_BYTES, Report, Rivalry, Room, report};
-use crate::shrink::Shrink;
 
 const SIDE: usize = 64;
 const MOST_FRAMES: usize = 8;
-pub const OPTIONS: Options = Options {
-    bits: 6,
-    tolerance: 4,
-    percentile: 50,
-    shrink: Shrink::Average,
-};
+pub const OPTIONS: Options = Options::USUAL;
 pub const RIVALRY: Rivalry = Rivalry {
     reach: 1,
     floor: 1,
@@ -34,7 +28,7 @@ pub fn stacksteps(input: &[u8]) -> String {
         shifts: 2 * count,
         verdicts: count,
         scratch: Scratch::of_step(SIDE, SIDE, OPTIONS.bits),
-        records: 9 * count * RECORD_BYTES, // all that a reach of 1 can find
+        records: RIVALRY.window() * count * RECORD_BYTES, // all that can be found
     };
     match report(stack, &OPTIONS, &RIVALRY, room) {
         Ok(report) => text(&report),

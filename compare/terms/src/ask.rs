@@ -59,8 +59,7 @@ pub fn ask(bracket: &Bracket, terms: &Terms) -> Vec<Answer> {
         reference: 0,
     };
     let (mut shifts, mut verdicts) = (vec![0; 2 * count], vec![0; count]);
-    let window = (2 * terms.reach as usize + 1).pow(2);
-    let mut records = vec![0; RECORD_BYTES * window * (count - 1)];
+    let mut records = vec![0; RECORD_BYTES * rivalry.window() * (count - 1)];
     let need = Scratch::of_step(side, side, terms.bits);
     let (mut bytes, mut words) = (vec![0; need.bytes], vec![0; need.words]);
     let [mut left, mut top, mut wide, mut high, mut written] = [0; 5];

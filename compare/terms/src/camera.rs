@@ -1,7 +1,7 @@
 //! A camera over a scene: what its frames hold when they are taken one after another
 //! while the nozzle trembles.
 
-use compare::inputs::Random;
+use trials::inputs::Random;
 
 use crate::scene::{FINE, Scene};
 

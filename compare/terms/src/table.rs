@@ -1,6 +1,6 @@
 //! Tables of counts: a row is what is photographed, a column a choice of terms.
 
-use compare::inputs::Random;
+use trials::inputs::Random;
 
 use crate::ask::{Answer, Terms, Verdict, ask};
 use crate::camera::{Bracket, Shot};

@@ -1,6 +1,6 @@
 //! How long a report takes. No two runs measure the same, so this is no table of the check.
 
-use compare::clock::processor_time;
+use trials::clock::processor_time;
 
 use crate::ask::{Terms, ask};
 use crate::camera::{Bracket, Shot};

@@ -1,10 +1,13 @@
 //! Calls on packed bitmaps.
 
-use compare::inputs::{ANY, Random, any_shift, padded_words, two_pairs, words};
-use compare::{original, recount};
 use naive::bitmap::{self, Bitmap};
 use naive::difference::{self, Counts, Pair};
 use naive::geometry::Shift;
+use naive::refusals::{
+    LONGEST_SIDE, PADDING_SET, PIXEL_OUTSIDE, SIDE_TOO_LONG, SIZES_DIFFER, WRONG_LENGTH,
+};
+use trials::inputs::{ANY, Random, TOO_LONG, any_shift, padded_words, two_pairs, words};
+use trials::{original, recount};
 
 use crate::cases::{
     Break, Case, Lent, Size, accepted, agreed, emptied, lines, refused, sizes_and_longest,
@@ -57,10 +60,12 @@ impl Case for Packed<Pixel> {
 }
 
 const PIXEL_BREAKS: [Break<Packed<Pixel>>; 4] = [
-    (11, |packed| packed.asked.x = packed.width),
-    (11, |packed| packed.asked.y = packed.height),
-    (11, |packed| (packed.asked.x, packed.asked.y) = (127, 0)),
-    (11, |packed| packed.asked.x = 1 << 32),
+    (PIXEL_OUTSIDE, |packed| packed.asked.x = packed.width),
+    (PIXEL_OUTSIDE, |packed| packed.asked.y = packed.height),
+    (PIXEL_OUTSIDE, |packed| {
+        (packed.asked.x, packed.asked.y) = (127, 0)
+    }),
+    (PIXEL_OUTSIDE, |packed| packed.asked.x = 1 << 32),
 ];
 
 fn pixels(random: &mut Random, mut value: impl FnMut(&mut Random) -> Option<bool>) -> Vec<String> {
@@ -105,8 +110,8 @@ impl Case for Packed<Total> {
 
 /// Each sets a bit that the size breaks may have taken away.
 const PADDING_BREAKS: [Break<Packed<Total>>; 2] = [
-    (8, |packed| set_bit(packed.list.get_mut(1), 3)),
-    (8, |packed| set_bit(packed.list.last_mut(), 63)),
+    (PADDING_SET, |packed| set_bit(packed.list.get_mut(1), 3)),
+    (PADDING_SET, |packed| set_bit(packed.list.last_mut(), 63)),
 ];
 
 fn set_bit(word: Option<&mut u64>, bit: u32) {
@@ -135,8 +140,8 @@ impl Case for Packed<Row> {
 }
 
 const ROW_BREAKS: [Break<Packed<Row>>; 2] = [
-    (11, |packed| packed.asked.y = packed.height),
-    (11, |packed| packed.asked.y = 1 << 32),
+    (PIXEL_OUTSIDE, |packed| packed.asked.y = packed.height),
+    (PIXEL_OUTSIDE, |packed| packed.asked.y = 1 << 32),
 ];
 
 pub fn row(random: &mut Random) -> Vec<String> {
@@ -149,7 +154,7 @@ pub fn row(random: &mut Random) -> Vec<String> {
             assert_eq!(Ok(bitmap::row(case.bitmap(), y).to_vec()), expected);
             cases.push(case);
         }
-        if size.1 < 8192 {
+        if size.1 < LONGEST_SIDE {
             let y = random.below(size.1 + 1);
             cases.push(Packed::new(
                 padded_words(random, size),
@@ -222,24 +227,24 @@ impl Case for Counting {
 }
 
 const COUNTING_BREAKS: [Break<Counting>; 15] = [
-    (1, |pairs| {
-        pairs.sizes = [(8193, 0); 2];
+    (SIDE_TOO_LONG, |pairs| {
+        pairs.sizes = [(TOO_LONG, 0); 2];
         pairs.maps.fill(vec![]);
     }),
-    (1, |pairs| pairs.sizes[0].0 = 8193),
-    (1, |pairs| pairs.sizes[0].1 = 8193),
-    (1, |pairs| pairs.sizes[1].0 = 8193),
-    (1, |pairs| pairs.sizes[1].1 = 1 << 32),
-    (4, |pairs| pairs.sizes[1].0 += 1), // as many words
-    (4, |pairs| pairs.sizes[0].1 += 1),
-    (2, |pairs| pairs.maps[0].push(0)),
-    (2, |pairs| _ = pairs.maps[1].pop()),
-    (2, |pairs| pairs.maps[2].clear()),
-    (2, |pairs| _ = pairs.maps[3].pop()),
-    (8, |pairs| pairs.set_padding(0)),
-    (8, |pairs| pairs.set_padding(1)),
-    (8, |pairs| pairs.set_padding(2)),
-    (8, |pairs| pairs.set_padding(3)),
+    (SIDE_TOO_LONG, |pairs| pairs.sizes[0].0 = TOO_LONG),
+    (SIDE_TOO_LONG, |pairs| pairs.sizes[0].1 = TOO_LONG),
+    (SIDE_TOO_LONG, |pairs| pairs.sizes[1].0 = TOO_LONG),
+    (SIDE_TOO_LONG, |pairs| pairs.sizes[1].1 = 1 << 32),
+    (SIZES_DIFFER, |pairs| pairs.sizes[1].0 += 1), // as many words
+    (SIZES_DIFFER, |pairs| pairs.sizes[0].1 += 1),
+    (WRONG_LENGTH, |pairs| pairs.maps[0].push(0)),
+    (WRONG_LENGTH, |pairs| _ = pairs.maps[1].pop()),
+    (WRONG_LENGTH, |pairs| pairs.maps[2].clear()),
+    (WRONG_LENGTH, |pairs| _ = pairs.maps[3].pop()),
+    (PADDING_SET, |pairs| pairs.set_padding(0)),
+    (PADDING_SET, |pairs| pairs.set_padding(1)),
+    (PADDING_SET, |pairs| pairs.set_padding(2)),
+    (PADDING_SET, |pairs| pairs.set_padding(3)),
 ];
 
 /// Shifts about whole words, where a word is made of parts of two.

@@ -2,9 +2,10 @@
 
 use std::fmt::Debug;
 
-use compare::inputs::{EDGE_HEIGHTS, EDGE_WIDTHS, Random, size};
-use compare::scenes;
 use naive::Refusal;
+use naive::refusals::{LONGEST_SIDE, SIDE_TOO_LONG, WRONG_LENGTH};
+use trials::inputs::{EDGE_HEIGHTS, EDGE_WIDTHS, Random, TOO_LONG, size};
+use trials::scenes;
 
 use crate::line::Answered;
 
@@ -120,24 +121,28 @@ impl<T: Copy + Default, Asked> Lent<T, Asked> {
     /// with a wrong length, and with a product that is 0 in 64 bits.
     pub fn size_breaks() -> Vec<Break<Self>> {
         vec![
-            (1, |lent| {
-                (lent.width, lent.height) = (8193, 0);
+            (SIDE_TOO_LONG, |lent| {
+                (lent.width, lent.height) = (TOO_LONG, 0);
                 lent.list.clear();
                 lent.rooms.fill(0);
             }),
-            (1, |lent| lent.height = 8193),
-            (1, |lent| (lent.width, lent.height) = (1 << 32, 1 << 32)),
-            (2, |lent| lent.list.push(T::default())),
-            (2, |lent| _ = lent.list.pop()),
-            (2, |lent| lent.list.clear()),
+            (SIDE_TOO_LONG, |lent| lent.height = TOO_LONG),
+            (SIDE_TOO_LONG, |lent| {
+                (lent.width, lent.height) = (1 << 32, 1 << 32)
+            }),
+            (WRONG_LENGTH, |lent| lent.list.push(T::default())),
+            (WRONG_LENGTH, |lent| _ = lent.list.pop()),
+            (WRONG_LENGTH, |lent| lent.list.clear()),
         ]
     }
 
     /// Check 2 of the outputs.
     pub fn room_breaks() -> Vec<Break<Self>> {
         vec![
-            (2, |lent| lent.rooms[0] += 1),
-            (2, |lent| *lent.rooms.last_mut().expect("an output") = 0),
+            (WRONG_LENGTH, |lent| lent.rooms[0] += 1),
+            (WRONG_LENGTH, |lent| {
+                *lent.rooms.last_mut().expect("an output") = 0
+            }),
         ]
     }
 }
@@ -151,21 +156,21 @@ pub fn sizes(random: &mut Random) -> Vec<Size> {
         sizes.push((width, random.between(3, 7) as usize));
     }
     sizes.extend((0..6).map(|_| size(random, 9)));
-    sizes.extend([(8192, 0), (0, 8192)]);
+    sizes.extend([(LONGEST_SIDE, 0), (0, LONGEST_SIDE)]);
     sizes
 }
 
 /// The sizes above and one of the limit that holds samples.
 pub fn sizes_and_longest(random: &mut Random) -> Vec<Size> {
     let mut sizes = sizes(random);
-    sizes.push((8192, 1));
+    sizes.push((LONGEST_SIDE, 1));
     sizes
 }
 
 /// Frames of one scene; at the limit a row of one digit a sample, which keeps the
 /// line short, and the same row moved a little.
 pub fn frames(random: &mut Random, (width, height): Size, count: usize) -> Vec<Vec<u8>> {
-    if width.max(height) < 8192 {
+    if width.max(height) < LONGEST_SIDE {
         return scenes::bracket(random, width, height, count);
     }
     let digits = (0..width * height).map(|_| random.below(10) as u8);

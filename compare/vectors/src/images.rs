@@ -1,19 +1,20 @@
 //! Calls on one image: grey, halving, moving, cut, packing, pyramid.
 
-use compare::inputs::{Random, any_shift, options, shrink};
-use compare::{original, recount};
 use naive::align::{self, halved_samples};
 use naive::bitmap::words_needed;
 use naive::geometry::{self, Shift};
 use naive::gray::{self, Frame};
+use naive::refusals::{HIGHEST_PERCENTILE, LONGEST_SIDE, NO_PERCENTILE, SCRATCH_TOO_SHORT};
 use naive::shrink::{self, Shrink};
 use naive::threshold as cut;
+use trials::inputs::{Random, any_shift, options, shrink};
+use trials::{original, recount};
 
 use crate::cases::{
     Break, Case, Lent, Size, accepted, agreed, emptied, frame, lines, refused, sizes,
     sizes_and_longest,
 };
-use crate::line::{Answered, Line};
+use crate::line::{Answered, Line, mode};
 
 type Image<Asked> = Lent<u8, Asked>;
 
@@ -51,13 +52,6 @@ pub fn from_rgb(random: &mut Random) -> Vec<String> {
     };
     let breaks = [Image::size_breaks(), Image::room_breaks()].concat();
     lines(random, sizes, SOUND, image, &breaks)
-}
-
-pub fn mode(shrink: Shrink) -> u8 {
-    match shrink {
-        Shrink::Average => 0,
-        Shrink::Subsample => 1,
-    }
 }
 
 impl Case for Image<Shrink> {
@@ -132,8 +126,10 @@ impl Case for Image<Cut> {
 }
 
 const PERCENTILE_BREAKS: [Break<Image<Cut>>; 2] = [
-    (3, |image| image.asked.percentile = 101),
-    (3, |image| image.asked.percentile = 255),
+    (NO_PERCENTILE, |image| {
+        image.asked.percentile = HIGHEST_PERCENTILE + 1
+    }),
+    (NO_PERCENTILE, |image| image.asked.percentile = 255),
 ];
 const PERCENTILES: [u8; 8] = [0, 1, 17, 50, 50, 83, 99, 100];
 
@@ -210,8 +206,10 @@ fn pyramid_sizes(random: &mut Random) -> Vec<Size> {
 }
 
 const SCRATCH_BREAKS: [Break<Image<Filling>>; 2] = [
-    (7, |image| image.rooms[0] = image.rooms[0].saturating_sub(1)),
-    (7, |image| image.rooms[0] = 0),
+    (SCRATCH_TOO_SHORT, |image| {
+        image.rooms[0] = image.rooms[0].saturating_sub(1)
+    }),
+    (SCRATCH_TOO_SHORT, |image| image.rooms[0] = 0),
 ];
 
 pub fn pyramid(random: &mut Random) -> Vec<String> {
@@ -280,8 +278,8 @@ fn all_levels(random: &mut Random, size: Size) -> Vec<Image<Asking>> {
 }
 
 const LEVEL_BREAKS: [Break<Image<Asking>>; 2] = [
-    (7, |image| _ = image.asked.scratch.pop()),
-    (7, |image| image.asked.scratch.clear()),
+    (SCRATCH_TOO_SHORT, |image| _ = image.asked.scratch.pop()),
+    (SCRATCH_TOO_SHORT, |image| image.asked.scratch.clear()),
 ];
 
 pub fn level(random: &mut Random) -> Vec<String> {
@@ -301,7 +299,7 @@ pub fn level(random: &mut Random) -> Vec<String> {
         (127, 2),
         (128, 1),
         (129, 4),
-        (8192, 0),
+        (LONGEST_SIDE, 0),
     ];
     let mut cases = Vec::new();
     for size in sizes {

@@ -3,11 +3,13 @@
 use std::fmt::{Display, Write};
 
 use naive::Refusal;
-use naive::align::Step;
+use naive::align::{Options, Scratch, Step};
 use naive::difference::Counts;
 use naive::geometry::{Crop, Shift};
 use naive::gray::Frame;
+use naive::refusals::RECORD_SPACE_TOO_SHORT;
 use naive::report::{Record, Report};
+use naive::shrink::Shrink;
 use naive::threshold::Packed;
 
 #[derive(Default)]
@@ -43,6 +45,28 @@ impl Line {
 
     pub fn shift(self, shift: Shift) -> Self {
         self.numbers([shift.x, shift.y])
+    }
+
+    pub fn options(self, options: &Options) -> Self {
+        self.number(options.bits)
+            .number(options.tolerance)
+            .number(options.percentile)
+            .number(mode(options.shrink))
+    }
+
+    /// The lengths of the scratch, and how much of each the call leaves free in
+    /// content: what it needs, or nothing where it is refused for anything but space.
+    pub fn scratch<T>(
+        self,
+        lent: Scratch,
+        answer: &Result<T, Refusal>,
+        needed: impl FnOnce() -> Scratch,
+    ) -> Self {
+        let free = match answer {
+            Err(refusal) if refusal.number != RECORD_SPACE_TOO_SHORT => Scratch::NONE,
+            _ => needed(),
+        };
+        self.numbers([lent.bytes, lent.words, free.bytes, free.words])
     }
 
     /// Ends the line with 0 and the output, or with the refusal.
@@ -132,5 +156,12 @@ impl Output for Report {
         let line = line.list(&self.shifts).list(&self.verdicts);
         let line = self.crop.write(line);
         line.number(self.records.len()).list(&fields)
+    }
+}
+
+pub fn mode(shrink: Shrink) -> u8 {
+    match shrink {
+        Shrink::Average => 0,
+        Shrink::Subsample => 1,
     }
 }

@@ -7,8 +7,10 @@ mod cases;
 mod images;
 mod line;
 mod programs;
+mod reports;
 mod shifts;
 mod stacks;
+mod steps;
 
 use std::collections::{BTreeMap, BTreeSet};
 use std::io;
@@ -16,12 +18,13 @@ use std::path::{Path, PathBuf};
 use std::process::ExitCode;
 use std::{env, fs};
 
-use compare::inputs::Random;
+use trials::inputs::Random;
 
 /// Fixed, since the files are kept.
 const SEED: u64 = 20_030_602;
 
-/// A file's name and the lines of its call.
+/// A file's name and the lines of its call. `crates/try_vectors` knows a call by its
+/// place here, from 1 on.
 type Calls = [(&'static str, fn(&mut Random) -> Vec<String>); 18];
 
 const CALLS: Calls = [
@@ -40,60 +43,34 @@ const CALLS: Calls = [
     ("doubled", shifts::doubled),
     ("offset", shifts::offset),
     ("common_crop", shifts::common_crop),
-    ("shift", stacks::shift),
+    ("shift", steps::shift),
     ("align_stack", stacks::align_stack),
-    ("report", stacks::report),
-];
-
-/// The programs that replay vectors, each with its calls in the order of their numbers.
-const REPLAYED: [(&str, &[&str]); 4] = [
-    (
-        "try_frames",
-        &[
-            "from_rgb",
-            "shrink2",
-            "threshold",
-            "compute_bitmaps",
-            "get",
-            "set",
-            "count_ones",
-            "row",
-        ],
-    ),
-    (
-        "try_moves",
-        &[
-            "doubled",
-            "offset",
-            "shifted",
-            "common_crop",
-            "disagreement",
-        ],
-    ),
-    ("try_align", &["pyramid", "level", "shift", "align_stack"]),
-    ("try_report", &["report"]),
+    ("report", reports::report),
 ];
 
 type Files = BTreeMap<PathBuf, Vec<u8>>;
 
-/// The most that a program that replays vectors reads.
-const MOST_INPUT: usize = 512 * 1024;
-
-/// What the programs read and print, by path below the crates: every line of a call
-/// after the call's number, and how many lines agree.
+/// What the program that replays all calls reads and prints, by path below the crates:
+/// every line of a call after the call's number, which is its place in the table, and
+/// how many lines agree.
 fn replayed(files: &Files) -> Files {
-    let mut inputs = BTreeMap::new();
-    for (program, calls) in REPLAYED {
-        let (mut input, mut cases) = (String::new(), 0);
-        for (number, call) in (1..).zip(calls) {
-            let lines = &files[&PathBuf::from(format!("{call}.txt"))];
-            for line in str::from_utf8(lines).expect("numbers").lines() {
-                input += &format!("{number} {line}\n");
-                cases += 1;
-            }
+    let (mut input, mut cases) = (String::new(), 0);
+    for (number, (call, _)) in (1..).zip(CALLS) {
+        let lines = &files[&PathBuf::from(format!("{call}.txt"))];
+        for line in str::from_utf8(lines).expect("numbers").lines() {
+            input += &format!("{number} {line}\n");
+            cases += 1;
         }
-        insert(&mut inputs, program, input.into_bytes(), agree(cases));
     }
+    let mut inputs = BTreeMap::new();
+    let room = 3 * 512 * 1024;
+    insert(
+        &mut inputs,
+        "try_vectors",
+        room,
+        input.into_bytes(),
+        agree(cases),
+    );
     inputs
 }
 
@@ -101,8 +78,9 @@ fn agree(cases: usize) -> Vec<u8> {
     format!("{cases} cases agree\n").into_bytes()
 }
 
-fn insert(inputs: &mut Files, program: &str, input: Vec<u8>, output: Vec<u8>) {
-    assert!(input.len() < MOST_INPUT, "{program} reads too much");
+/// `room` is what the program's `main` reads at most.
+fn insert(inputs: &mut Files, program: &str, room: usize, input: Vec<u8>, output: Vec<u8>) {
+    assert!(input.len() < room, "{program} reads too much");
     inputs.insert(Path::new(program).join("stdin"), input);
     inputs.insert(Path::new(program).join("stdout"), output);
 }
@@ -123,10 +101,12 @@ fn stacksteps_inputs(files: &Files) -> Files {
     }
     let example = |end| files[&Path::new("stacksteps/example").with_extension(end)].clone();
     let mut inputs = BTreeMap::new();
-    insert(&mut inputs, "try_stacksteps", all, agree(pairs.len()));
+    let room = 512 * 1024;
+    insert(&mut inputs, "try_stacksteps", room, all, agree(pairs.len()));
     insert(
         &mut inputs,
         "stacksteps",
+        8 * 64 * 64 + 1,
         example("stdin"),
         example("stdout"),
     );

@@ -1,8 +1,8 @@
 //! What the program `stacksteps` reads and prints, as pairs of files.
 
-use compare::inputs::Random;
-use compare::scenes;
 use naive::stacksteps::stacksteps;
+use trials::inputs::Random;
+use trials::scenes;
 
 const SIDE: usize = 64;
 const FRAME: usize = SIDE * SIDE;

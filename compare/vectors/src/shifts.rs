@@ -1,8 +1,9 @@
 //! Calls on shifts alone.
 
-use compare::inputs::{Random, coordinate};
-use compare::original;
 use naive::geometry::{self, Shift};
+use naive::refusals::{COORDINATE_OUTSIDE, LONGEST_SIDE, SIDE_TOO_LONG, WRONG_LENGTH};
+use trials::inputs::{Random, TOO_LONG, coordinate};
+use trials::original;
 
 use crate::cases::{Break, Case, Lent, accepted, agreed, refused, sizes};
 use crate::line::{Answered, Line};
@@ -38,12 +39,12 @@ pub fn doubled(_: &mut Random) -> Vec<String> {
     };
     let cases = DOUBLED.map(|x| DOUBLED.map(|y| doubling(x, y)));
     let breaks: [Break<Moving>; 6] = [
-        (12, |moving| moving.shift.x = 1 << 30),
-        (12, |moving| moving.shift.x = -(1 << 30) - 1),
-        (12, |moving| moving.shift.x = i32::MIN),
-        (12, |moving| moving.shift.y = 1 << 30),
-        (12, |moving| moving.shift.y = -(1 << 30) - 1),
-        (12, |moving| moving.shift.y = i32::MAX),
+        (COORDINATE_OUTSIDE, |moving| moving.shift.x = 1 << 30),
+        (COORDINATE_OUTSIDE, |moving| moving.shift.x = -(1 << 30) - 1),
+        (COORDINATE_OUTSIDE, |moving| moving.shift.x = i32::MIN),
+        (COORDINATE_OUTSIDE, |moving| moving.shift.y = 1 << 30),
+        (COORDINATE_OUTSIDE, |moving| moving.shift.y = -(1 << 30) - 1),
+        (COORDINATE_OUTSIDE, |moving| moving.shift.y = i32::MAX),
     ];
     let broken = refused(&doubling(5, -7), &breaks);
     [accepted(cases.into_iter().flatten()), broken].concat()
@@ -69,12 +70,12 @@ pub fn offset(_: &mut Random) -> Vec<String> {
     ];
     let cases = pairs.map(|(x, right)| pairs.map(|(y, down)| moving(x, y, right, down)));
     let breaks: [Break<Moving>; 4] = [
-        (12, |moving| moving.shift.x = i32::MAX),
-        (12, |moving| moving.shift.y = i32::MIN),
-        (12, |moving| {
+        (COORDINATE_OUTSIDE, |moving| moving.shift.x = i32::MAX),
+        (COORDINATE_OUTSIDE, |moving| moving.shift.y = i32::MIN),
+        (COORDINATE_OUTSIDE, |moving| {
             (moving.shift.x, moving.offset) = (i32::MIN, Some(Shift::new(i32::MIN, 0)));
         }),
-        (12, |moving| {
+        (COORDINATE_OUTSIDE, |moving| {
             (moving.shift.y, moving.offset) = (i32::MAX, Some(Shift::new(0, i32::MAX)));
         }),
     ];
@@ -98,7 +99,11 @@ impl Case for Lent<i32, Crop> {
 }
 
 pub fn common_crop(random: &mut Random) -> Vec<String> {
-    let sizes = [sizes(random), vec![(8192, 8192), (8192, 1), (10, 8)]].concat();
+    let sizes = [
+        sizes(random),
+        vec![(LONGEST_SIDE, LONGEST_SIDE), (LONGEST_SIDE, 1), (10, 8)],
+    ]
+    .concat();
     let mut cases = Vec::new();
     for size in sizes {
         for far in [false, true] {
@@ -116,16 +121,18 @@ pub fn common_crop(random: &mut Random) -> Vec<String> {
     let crowd = (0..40).map(|_| random.between(-5, 5) as i32).collect();
     cases.push(Lent::new(crowd, (64, 48), Crop, &[]));
     for ends in [vec![i32::MIN, i32::MAX], vec![i32::MAX, 0, i32::MIN, 0]] {
-        cases.push(Lent::new(ends, (8192, 8192), Crop, &[]));
+        cases.push(Lent::new(ends, (LONGEST_SIDE, LONGEST_SIDE), Crop, &[]));
     }
 
     let sound = Lent::new(vec![0, 0, 3, -2, -1, 1], (10, 8), Crop, &[]);
     let breaks: [Break<Lent<i32, Crop>>; 5] = [
-        (1, |crop| crop.width = 8193),
-        (1, |crop| crop.height = 8193),
-        (1, |crop| (crop.width, crop.height) = (1 << 32, 1 << 32)),
-        (2, |crop| _ = crop.list.pop()),
-        (2, |crop| crop.list = vec![4]),
+        (SIDE_TOO_LONG, |crop| crop.width = TOO_LONG),
+        (SIDE_TOO_LONG, |crop| crop.height = TOO_LONG),
+        (SIDE_TOO_LONG, |crop| {
+            (crop.width, crop.height) = (1 << 32, 1 << 32)
+        }),
+        (WRONG_LENGTH, |crop| _ = crop.list.pop()),
+        (WRONG_LENGTH, |crop| crop.list = vec![4]),
     ];
     [accepted(cases), refused(&sound, &breaks)].concat()
 }

@@ -61,6 +61,15 @@ earliestLeast cost (s ∷ l) = leastFrom cost s l
 unfoldable pub refine : (Shift → ℕ) → Shift → Shift
 refine cost centre = earliestLeast cost (tried cost centre)
 
+-- A step, and the number of comparisons that it takes.
+pub record Stepped : Type 0 where
+  pub shift : Shift
+  pub comparisons : ℕ
+
+-- Both at one level, where as many are made as shifts are tried.
+unfoldable pub refined : (Shift → ℕ) → Shift → Stepped
+refined cost centre = record { shift = refine cost centre; comparisons = length (tried cost centre) }
+
 -- ---- the step
 
 -- What all frames of a search share. Bits is Ward's shift_bits.
@@ -95,6 +104,10 @@ unfoldable pub comparisonsAt : (ℕ → Shift → ℕ) → ℕ → ℕ → ℕ
 comparisonsAt cost k zero = length (tried (cost k) origin)
 comparisonsAt cost k (suc d) = comparisonsAt cost (suc k) d + length (tried (cost k) (doubled (stepAt cost (suc k) d)))
 
+-- Both from the last level to level k.
+unfoldable pub steppedAt : (ℕ → Shift → ℕ) → ℕ → ℕ → Stepped
+steppedAt cost k d = record { shift = stepAt cost k d; comparisons = comparisonsAt cost k d }
+
 -- The disagreement of two frames of w by h at level k and a shift.
 abbrev pub costOf : Options → ℕ → ℕ → Exposure → Exposure → ℕ → Shift → ℕ
 costOf o w h r t k s = countsAt o w h r t k s .disagreeing
@@ -106,6 +119,10 @@ step o w h r t = stepAt (costOf o w h r t) 0 (levels w h (o .bits))
 -- The number of comparisons that the step makes.
 unfoldable pub comparisons : Options → ℕ → ℕ → Exposure → Exposure → ℕ
 comparisons o w h r t = comparisonsAt (costOf o w h r t) 0 (levels w h (o .bits))
+
+-- Both.
+unfoldable pub stepped : Options → ℕ → ℕ → Exposure → Exposure → Stepped
+stepped o w h r t = record { shift = step o w h r t; comparisons = comparisons o w h r t }
 
 -- ---- the stack
 
@@ -188,3 +205,10 @@ stepNeed w h bits = record { bytes = stepBytes w h bits; words = stepWords w h }
 -- What a stack of n frames needs of what a step needs: none with one frame.
 abbrev pub stackNeed : ℕ → ℕ → ℕ
 stackNeed n need = cond (leb n 1) 0 need
+
+-- What a stack needs of both.
+abbrev pub stackBytes : Stack → ℕ
+stackBytes a = stackNeed (a .frames) (stepBytes (a .width) (a .height) (a .options .bits))
+
+abbrev pub stackWords : Stack → ℕ
+stackWords a = stackNeed (a .frames) (stepWords (a .width) (a .height))

@@ -42,7 +42,8 @@ unfolding target
 no-samples p = omega arith
 
 pub cards : Cards
-unfolding sum countIf build joined indexOf source atSources shifted largest commonCrop grey fromRgb mean halvedSample shrink2 bins target binsAdded cut thresholdBit exclusionBit wordsPerRow wordOf packed bitmapsOf logUpTo log2 levels
+unfolding sum countIf build joined indexOf source atSources shifted largest commonCrop grey fromRgb mean halvedSample shrink2 bins target
+    binsAdded cut thresholdBit exclusionBit wordsPerRow wordOf packed bitmapsOf logUpTo log2 levels
 cards = record {
   A = λ p. ap (λ (goal : ℕ). binsAdded (bins []) goal 0) (no-samples p);
   B = (refl, refl);

@@ -11,8 +11,9 @@ use Rattle.definitions.specs.Shrink.{average, subsample, mean, halvedSam
 use Rattle.definitions.specs.Threshold.{bins, target, binsAdded, cut, thresholdBit, exclusionBit}
 use Rattle.definitions.specs.Bitmap.{wordsPerRow, bitOf, bitAt}
 use Rattle.definitions.specs.Difference.{Bitmaps, bitmapsOf, bitmapsIn, comparedBit, disagreeingBit, overlap, counts}
-use Rattle.definitions.specs.Align.{Options, Stack, shift, logUpTo, log2, levels, tried, leastFrom, earliestLeast, refine, bitmapsAt, countsAt, stepAt, step, stackOf, exposure, neighbour, walk, stepOf}
-use Rattle.definitions.specs.Report.{Terms, window, isRival, survey, frameCounts, limitOf, rivals, Record, bytes32, twosComplement, recordBytes, fieldOf, signedOf, recordAt, verdict}
+use Rattle.definitions.specs.Align.{Options, Stack, shift, logUpTo, log2, levels, tried, leastFrom, earliestLeast, refine}
+use Rattle.definitions.specs.Align.{bitmapsAt, countsAt, stepAt, step, stackOf, exposure, neighbour, walk, stepOf}
+use Rattle.definitions.specs.Report.{Terms, window, comesClose, isRival, survey, frameCounts, limitOf, rivals, Record, bytes32, twosComplement, recordBytes, fieldOf, signedOf, recordAt, verdict}
 use Rattle.definitions.specs.Refusals.{answer, refused, sideOver, wrongLength, percentileOver, noReference, framesOver, cutChecks, pairDiffers, framesChecks}
 
 -- A pixel whose threshold bit and exclusion bit are these.
@@ -43,13 +44,15 @@ unfolding sum sideAt overlap counts levels tried leastFrom earliestLeast refine 
 empty-frames = refl
 
 -- Two samples each, both compared, both disagreeing: the first candidate beside the centre compares nothing, and wins.
-nothing-compared-wins : step (record { bits = 6; tolerance = 0; shrink = average }) 2 1 (record { samples = 0 ∷ 255 ∷ []; percentile = 50 }) (record { samples = 255 ∷ 0 ∷ []; percentile = 50 }) ≡ shift (negsuc 0) (negsuc 0)
-unfolding sum countIf build indexOf source atSources sideAt levelOf bins target binsAdded cut thresholdBit exclusionBit bitmapsOf comparedBit disagreeingBit overlap counts logUpTo log2 levels tried leastFrom earliestLeast refine bitmapsAt countsAt stepAt step
+nothing-compared-wins : step (record { bits = 6; tolerance = 0; shrink = average }) 2 1 (record { samples = 0 ∷ 255 ∷ []; percentile = 50 })
+    (record { samples = 255 ∷ 0 ∷ []; percentile = 50 }) ≡ shift (negsuc 0) (negsuc 0)
+unfolding sum countIf build indexOf source atSources sideAt levelOf bins target binsAdded cut thresholdBit exclusionBit bitmapsOf
+    comparedBit disagreeingBit overlap counts logUpTo log2 levels tried leastFrom earliestLeast refine bitmapsAt countsAt stepAt step
 nothing-compared-wins = refl
 
 -- Of the nine shifts of a single pixel only the centre compares one: the others disagree in none, and a floor of 1 keeps them out.
-below-the-floor : survey (counts 1 1 (pixel 1 1) (pixel 1 1)) origin 1 1 0 ≡ origin ∷ []
-unfolding sum build joined keepIf indexOf source atSources comparedBit disagreeingBit overlap counts window isRival survey
+below-the-floor : survey (counts 1 1 (pixel 1 1) (pixel 1 1)) (record { centre = origin; reach = 1; floor = 1; limit = 0 }) ≡ origin ∷ []
+unfolding sum build joined keepIf indexOf source atSources comparedBit disagreeingBit overlap counts window comesClose isRival survey
 below-the-floor = refl
 
 -- Two frames of card D's row.
@@ -61,7 +64,9 @@ terms f = record { reach = 1; floor = f; margin = 0 }
 
 -- The step (0, 0) compares three pixels, one to either side one: a verdict of each kind, by the floor.
 verdict-of-each-kind : (verdict twice (terms 1) 0 ≡ 0) × (verdict twice (terms 4) 1 ≡ 1) × (verdict twice (terms 2) 1 ≡ 2) × (verdict twice (terms 1) 1 ≡ 3)
-unfolding sum countIf build joined keepIf indexOf source atSources sideAt levelOf bins target binsAdded cut thresholdBit exclusionBit bitmapsOf comparedBit disagreeingBit overlap counts logUpTo log2 levels tried leastFrom earliestLeast refine bitmapsAt countsAt stepAt step stackOf exposure neighbour stepOf window isRival survey frameCounts limitOf rivals verdict
+unfolding sum countIf build joined keepIf indexOf source atSources sideAt levelOf bins target binsAdded cut thresholdBit exclusionBit bitmapsOf
+    comparedBit disagreeingBit overlap counts logUpTo log2 levels tried leastFrom earliestLeast refine bitmapsAt countsAt stepAt step
+    stackOf exposure neighbour stepOf window comesClose isRival survey frameCounts limitOf rivals verdict
 verdict-of-each-kind = (refl, refl, refl, refl)
 
 -- The mean of four samples, and the upper left one.

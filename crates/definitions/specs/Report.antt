@@ -15,12 +15,19 @@ use Rattle.definitions.specs.Align.{Stack, exposure, countsAt, neighbour
 
 -- ---- a survey: the shifts around a centre that come close enough
 
+-- What a survey asks: around which centre and how far from it, how many pixels a shift has to compare, and in how many it may disagree.
+pub record Question : Type 0 where
+  pub centre : Shift
+  pub reach : ℕ
+  pub floor : ℕ
+  pub limit : ℕ
+
 -- 01's "rival": within the reach of the centre on both axes, compares at least the floor, disagrees in at most the limit.
-pub record Rival (at : Shift → Counts) (centre : Shift) (reach floor limit : ℕ) (s : Shift) : Type 0 where
-  pub across : natAbs (s .x -ℤ centre .x) ≤ reach
-  pub down : natAbs (s .y -ℤ centre .y) ≤ reach
-  pub compares : floor ≤ at s .compared
-  pub disagrees : at s .disagreeing ≤ limit
+pub record Rival (at : Shift → Counts) (u : Question) (s : Shift) : Type 0 where
+  pub across : natAbs (s .x -ℤ u .centre .x) ≤ u .reach
+  pub down : natAbs (s .y -ℤ u .centre .y) ≤ u .reach
+  pub compares : u .floor ≤ at s .compared
+  pub disagrees : at s .disagreeing ≤ u .limit
 
 -- The shifts within the reach of a centre: row by row from the top, each from the left, so y rises, then x.
 unfoldable pub window : Shift → ℕ → List Shift
@@ -28,13 +35,16 @@ window c reach =
     let side = suc (2 * reach) in
     image side side (λ (i j : ℕ). record { x = (c .x -ℤ pos reach) +ℤ pos i; y = (c .y -ℤ pos reach) +ℤ pos j })
 
--- The test that a shift of the window has to pass.
-unfoldable pub isRival : (Shift → Counts) → ℕ → ℕ → Shift → Bool
-isRival at floor limit s = leb floor (at s .compared) && leb (at s .disagreeing) limit
+-- The test that a shift of the window has to pass, by both counts there.
+unfoldable pub comesClose : Question → Shift → Counts → Bool
+comesClose u s n = leb (u .floor) (n .compared) && leb (n .disagreeing) (u .limit)
+
+unfoldable pub isRival : (Shift → Counts) → Question → Shift → Bool
+isRival at u s = comesClose u s (at s)
 
 -- The rivals in order.
-unfoldable pub survey : (Shift → Counts) → Shift → ℕ → ℕ → ℕ → List Shift
-survey at centre reach floor limit = keepIf (isRival at floor limit) (window centre reach)
+unfoldable pub survey : (Shift → Counts) → Question → List Shift
+survey at u = keepIf (isRival at u) (window (u .centre) (u .reach))
 
 -- ---- the report's use of it: around a frame's step, up to m more than the step disagrees in
 
@@ -52,15 +62,17 @@ frameCounts a k s = countsAt (a .options) (a .width) (a .height) (exposure a (ne
 unfoldable pub limitOf : Stack → Terms → ℕ → ℕ
 limitOf a q k = frameCounts a k (stepOf a k) .disagreeing + q .margin
 
+-- What the survey of frame k asks.
+abbrev pub questionOf : Stack → Terms → ℕ → Question
+questionOf a q k = record { centre = stepOf a k; reach = q .reach; floor = q .floor; limit = limitOf a q k }
+
 -- A shift is a rival of frame k.
 abbrev pub RivalOf : Stack → Terms → ℕ → Shift → Type 0
-RivalOf a q k s = Rival (frameCounts a k) (stepOf a k) (q .reach) (q .floor) (limitOf a q k) s
+RivalOf a q k s = Rival (frameCounts a k) (questionOf a q k) s
 
 -- The rivals of frame k in order: y rises, then x. The reference has none.
 unfoldable pub rivals : Stack → Terms → ℕ → List Shift
-rivals a q k =
-    cond (eqb k (a .reference)) []
-    (survey (frameCounts a k) (stepOf a k) (q .reach) (q .floor) (limitOf a q k))
+rivals a q k = cond (eqb k (a .reference)) [] (survey (frameCounts a k) (questionOf a q k))
 
 -- ---- records
 

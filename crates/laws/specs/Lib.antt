@@ -1,47 +1,7 @@
--- What holds of the definitions.
-pub mod Cases
-pub mod Sums
-pub mod Lists
-pub mod Bits
-pub mod Adders
-pub mod WordsOf
-pub mod Whole
-pub mod Places
-pub mod Crop
-pub mod Least
-pub mod Levels
-pub mod Steps
-pub mod Checks
-pub mod Counts
-pub mod Cut
-pub mod Writes
-pub mod Sizes
-pub mod Members
-pub mod Records
-pub mod Verdicts
-pub mod Bitmaps
-pub mod Machine
-pub mod ChecksGeometry
-pub mod Runs
-pub mod Axis
-pub mod Pyramids
-pub mod Beside
-pub mod Packed
-pub mod ChecksStep
-pub mod ChecksRow
-pub mod Free
-pub mod Walks
-pub mod Moved
-pub mod Grids
-pub mod Joints
-pub mod MovedRows
-pub mod Overlaps
-pub mod ChecksDifference
-pub mod ChecksStack
-pub mod StackWalks
-pub mod ChecksReport
-pub mod Surveys
-pub mod ReadBack
-pub mod Kept
-pub mod Bands
-pub mod Demand
+-- What holds of the definitions, in groups: the file beside each folder says what holds in its modules.
+pub mod general  -- numbers, whole numbers, sums and lists, whatever they stand for
+pub mod images  -- frames: places, moved rows, the crop, the histogram, the pyramid
+pub mod bitmaps  -- bits and words, packed bitmaps, and the counts of two packed pairs
+pub mod checks  -- which calls are refused, and what an accepted call was given
+pub mod search  -- the best of nine, a step from level to level, and the walk of a stack
+pub mod report  -- the survey, the records, the verdicts, and all that a report owes

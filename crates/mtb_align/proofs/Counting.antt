@@ -1,5 +1,4 @@
 -- A run of words as a loop counts it, at word k: where the loop stands, what it has counted, and that the words it reads lie inside.
--- Assumes nothing.
 use mathlib.Core.Path.{_≡_, refl, sym, ap, ap₂, _∙_}
 use mathlib.Core.List.{List}
 use Prim.Native.Nat.{ℕ, _+_, _-_, _*_, _/_, _%_, _^_, _≤_, _<_, min}
@@ -8,10 +7,11 @@ use native.Mathlib.Omega.{arith}
 use lib.ListN.{length, getD}
 use Rattle.definitions.specs.Sum.{sum}
 use Rattle.definitions.specs.Bitmap.{bitOf, wordsPerRow}
-use Rattle.laws.specs.Bitmaps.{IsBitmap, bitmap-most}
-use Rattle.laws.specs.Joints.{Alike, Reaches, LinesReach, Counted, Showing, shown-counted, runSum, linesSum, run-none, run-more, run-split, lines-none, lines-more, lines-split, lines-swap, lines-flat, spanned, edged, counted-as, counted-most, counted-is, counted-sum}
-use Rattle.laws.specs.MovedRows.{movedRows, rows-flat, rows-whole, rows-right, rows-left}
-use Rattle.laws.specs.Sizes.{area, row-inside}
+use Rattle.laws.specs.bitmaps.Bitmaps.{IsBitmap, bitmap-most}
+use Rattle.laws.specs.bitmaps.Joints.{Alike, Reaches, LinesReach, Counted, Showing, shown-counted, counted-as, counted-most, counted-is, counted-sum}
+use Rattle.laws.specs.bitmaps.Joints.{spanned, edged, runSum, linesSum, run-none, run-more, run-split, lines-none, lines-more, lines-split, lines-swap, lines-flat}
+use Rattle.laws.specs.bitmaps.MovedRows.{movedRows, rows-flat, rows-whole, rows-right, rows-left}
+use Rattle.laws.specs.images.Sizes.{area, row-inside}
 
 pub record Running (p : List ℕ → ℕ → ℕ) (rt re st se : List ℕ) (i j step len compared disagreeing at from k : ℕ) : Type 0 where
   pub within : k ≤ len
@@ -130,29 +130,9 @@ pub by-columns : (p : List ℕ → ℕ → ℕ) (rt re st se : List ℕ) (i j n 
     → Counted (linesSum p rt re st se i j 1 n columns rows) most c d → Counted (linesSum p rt re st se i j n 1 rows columns) more c d
 by-columns p rt re st se i j n rows columns l q = counted-as q l (λ g _. lines-swap p rt re st se i j 1 n rows columns g)
 
--- ---- seven words, and bands of seven lines
+-- ---- seven words, and seven lines at a time
 
 pub seven : (p : List ℕ → ℕ → ℕ) (rt re st se : List ℕ) (i j step : ℕ) {a₀ b₀ a₁ b₁ a₂ b₂ a₃ b₃ a₄ b₄ a₅ b₅ a₆ b₆ x y : ℕ}
-    → Showing p rt re st se i j a₀ b₀
-    → Showing p rt re st se (i + step) (j + step) a₁ b₁
-    → Showing p rt re st se (i + 2 * step) (j + 2 * step) a₂ b₂
-    → Showing p rt re st se (i + 3 * step) (j + 3 * step) a₃ b₃
-    → Showing p rt re st se (i + 4 * step) (j + 4 * step) a₄ b₄
-    → Showing p rt re st se (i + 5 * step) (j + 5 * step) a₅ b₅
-    → Showing p rt re st se (i + 6 * step) (j + 6 * step) a₆ b₆
-    → x ≡ sum 64 (bitOf a₀) + sum 64 (bitOf a₁) + sum 64 (bitOf a₂) + sum 64 (bitOf a₃) + sum 64 (bitOf a₄) + sum 64 (bitOf a₅) + sum 64 (bitOf a₆)
-    → y ≡ sum 64 (bitOf b₀) + sum 64 (bitOf b₁) + sum 64 (bitOf b₂) + sum 64 (bitOf b₃) + sum 64 (bitOf b₄) + sum 64 (bitOf b₅) + sum 64 (bitOf b₆) → Counted (runSum p rt re st se i j step 7) 448 x y
-seven p rt re st se i j step o₀ o₁ o₂ o₃ o₄ o₅ o₆ ex ey =
-    let q₁ = run-more p rt re st se i j step 0 _ _ (run-none p rt re st se i j step) i j (omega arith) (omega arith) _ _ (shown-counted p rt re st se i j _ _ o₀) in
-    let q₂ = run-more p rt re st se i j step 1 _ _ q₁ (i + step) (j + step) (omega arith) (omega arith) _ _ (shown-counted p rt re st se (i + step) (j + step) _ _ o₁) in
-    let q₃ = run-more p rt re st se i j step 2 _ _ q₂ (i + 2 * step) (j + 2 * step) refl refl _ _ (shown-counted p rt re st se (i + 2 * step) (j + 2 * step) _ _ o₂) in
-    let q₄ = run-more p rt re st se i j step 3 _ _ q₃ (i + 3 * step) (j + 3 * step) refl refl _ _ (shown-counted p rt re st se (i + 3 * step) (j + 3 * step) _ _ o₃) in
-    let q₅ = run-more p rt re st se i j step 4 _ _ q₄ (i + 4 * step) (j + 4 * step) refl refl _ _ (shown-counted p rt re st se (i + 4 * step) (j + 4 * step) _ _ o₄) in
-    let q₆ = run-more p rt re st se i j step 5 _ _ q₅ (i + 5 * step) (j + 5 * step) refl refl _ _ (shown-counted p rt re st se (i + 5 * step) (j + 5 * step) _ _ o₅) in
-    let q₇ = run-more p rt re st se i j step 6 _ _ q₆ (i + 6 * step) (j + 6 * step) refl refl _ _ (shown-counted p rt re st se (i + 6 * step) (j + 6 * step) _ _ o₆) in
-    counted-is q₇ (omega arith) (omega arith) (omega arith)
-
-pub seven-each : (p : List ℕ → ℕ → ℕ) (rt re st se : List ℕ) (i j step : ℕ) {a₀ b₀ a₁ b₁ a₂ b₂ a₃ b₃ a₄ b₄ a₅ b₅ a₆ b₆ x y : ℕ}
     → Showing p rt re st se (i + 0 * step) (j + 0 * step) a₀ b₀
     → Showing p rt re st se (i + 1 * step) (j + 1 * step) a₁ b₁
     → Showing p rt re st se (i + 2 * step) (j + 2 * step) a₂ b₂
@@ -161,16 +141,16 @@ pub seven-each : (p : List ℕ → ℕ → ℕ) (rt re st se : List ℕ) (i j st
     → Showing p rt re st se (i + 5 * step) (j + 5 * step) a₅ b₅
     → Showing p rt re st se (i + 6 * step) (j + 6 * step) a₆ b₆
     → x ≡ sum 64 (bitOf a₀) + sum 64 (bitOf a₁) + sum 64 (bitOf a₂) + sum 64 (bitOf a₃) + sum 64 (bitOf a₄) + sum 64 (bitOf a₅) + sum 64 (bitOf a₆)
-    → y ≡ sum 64 (bitOf b₀) + sum 64 (bitOf b₁) + sum 64 (bitOf b₂) + sum 64 (bitOf b₃) + sum 64 (bitOf b₄) + sum 64 (bitOf b₅) + sum 64 (bitOf b₆) → Counted (runSum p rt re st se i j step 7) 448 x y
-seven-each p rt re st se i j step o₀ o₁ o₂ o₃ o₄ o₅ o₆ ex ey =
-    let q₁ = run-more p rt re st se i j step 0 _ _ (run-none p rt re st se i j step) (i + 0 * step) (j + 0 * step) refl refl _ _ (shown-counted p rt re st se (i + 0 * step) (j + 0 * step) _ _ o₀) in
-    let q₂ = run-more p rt re st se i j step 1 _ _ q₁ (i + 1 * step) (j + 1 * step) refl refl _ _ (shown-counted p rt re st se (i + 1 * step) (j + 1 * step) _ _ o₁) in
-    let q₃ = run-more p rt re st se i j step 2 _ _ q₂ (i + 2 * step) (j + 2 * step) refl refl _ _ (shown-counted p rt re st se (i + 2 * step) (j + 2 * step) _ _ o₂) in
-    let q₄ = run-more p rt re st se i j step 3 _ _ q₃ (i + 3 * step) (j + 3 * step) refl refl _ _ (shown-counted p rt re st se (i + 3 * step) (j + 3 * step) _ _ o₃) in
-    let q₅ = run-more p rt re st se i j step 4 _ _ q₄ (i + 4 * step) (j + 4 * step) refl refl _ _ (shown-counted p rt re st se (i + 4 * step) (j + 4 * step) _ _ o₄) in
-    let q₆ = run-more p rt re st se i j step 5 _ _ q₅ (i + 5 * step) (j + 5 * step) refl refl _ _ (shown-counted p rt re st se (i + 5 * step) (j + 5 * step) _ _ o₅) in
-    let q₇ = run-more p rt re st se i j step 6 _ _ q₆ (i + 6 * step) (j + 6 * step) refl refl _ _ (shown-counted p rt re st se (i + 6 * step) (j + 6 * step) _ _ o₆) in
-    counted-is q₇ (omega arith) (omega arith) (omega arith)
+    → y ≡ sum 64 (bitOf b₀) + sum 64 (bitOf b₁) + sum 64 (bitOf b₂) + sum 64 (bitOf b₃) + sum 64 (bitOf b₄) + sum 64 (bitOf b₅) + sum 64 (bitOf b₆)
+    → Counted (runSum p rt re st se i j step 7) 448 x y
+seven p rt re st se i j step o₀ o₁ o₂ o₃ o₄ o₅ o₆ ex ey =
+    let q = next 6 (next 5 (next 4 (next 3 (next 2 (next 1 (next 0 (run-none p rt re st se i j step) o₀) o₁) o₂) o₃) o₄) o₅) o₆ in
+    counted-is q (omega arith) (omega arith) (omega arith)
+  where
+    next : (k : ℕ) {c d a b : ℕ} → Counted (runSum p rt re st se i j step k) (k * 64) c d → Showing p rt re st se (i + k * step) (j + k * step) a b
+        → Counted (runSum p rt re st se i j step (k + 1)) ((k + 1) * 64) (c + sum 64 (bitOf a)) (d + sum 64 (bitOf b))
+    next k q o =
+        run-more p rt re st se i j step k _ _ q (i + k * step) (j + k * step) refl refl _ _ (shown-counted p rt re st se (i + k * step) (j + k * step) _ _ o)
 
 module _ (p : List ℕ → ℕ → ℕ) (rt re st se : List ℕ) (i j apart step lines len most : ℕ) {c d at from line : ℕ} (q : Ruling p rt re st se i j apart step lines len most c d at from line) where
   -- some lines from there on
@@ -190,9 +170,9 @@ module _ (p : List ℕ → ℕ → ℕ) (rt re st se : List ℕ) (i j apart step
       (λ g _. lines-split p rt re st se i j apart step len line n g
       ∙ ap (λ (t : ℕ). linesSum p rt re st se i j apart step line len g + t) (ap₂ (λ (u v : ℕ). linesSum p rt re st se u v apart step n len g) (sym (q .at-is)) (sym (q .from-is))))
 
-  pub band-goes-on : line + 7 ≤ lines → {a b : ℕ} → Counted (linesSum p rt re st se at from apart step 7 len) (7 * most) a b
+  pub sevens-go-on : line + 7 ≤ lines → {a b : ℕ} → Counted (linesSum p rt re st se at from apart step 7 len) (7 * most) a b
       → Ruling p rt re st se i j apart step lines len most (c + a) (d + b) (at + 7 * apart) (from + 7 * apart) (line + 7)
-  band-goes-on l o =
+  sevens-go-on l o =
       let e = add-mul line 7 apart in
       record { within = l; at-is = omega (arith, q .at-is); from-is = omega (arith, q .from-is); counted = lines-counted 7 o (refl, refl) }
 
@@ -203,19 +183,19 @@ module _ (p : List ℕ → ℕ → ℕ) (rt re st se : List ℕ) (i j apart step
       let n : line + (lines - line) ≡ lines = omega (arith, q .within) in
       counted-as (lines-counted (lines - line) o e) (omega (arith, ap (λ (k : ℕ). k * most) n)) (λ g _. ap (λ (k : ℕ). linesSum p rt re st se i j apart step k len g) n)
 
--- words that follow each other: seven parts, and what is left
-pub parts-inside : (size i j part len : ℕ) → part ≡ len / 7 → i + len ≤ size → j + len ≤ size → LinesReach size 0 i j part 1 7 part
-parts-inside size i j part len e a b = record { line = λ r h. record { each = λ k m. let o = row-inside part 7 r h in (omega arith, omega arith) } }
+-- words that follow each other: seven runs of a seventh, and what is left
+pub sevenths-inside : (size i j seventh len : ℕ) → seventh ≡ len / 7 → i + len ≤ size → j + len ≤ size → LinesReach size 0 i j seventh 1 7 seventh
+sevenths-inside size i j seventh len e a b = record { line = λ r h. record { each = λ k m. let o = row-inside seventh 7 r h in (omega arith, omega arith) } }
 
-pub parts-counted : (p : List ℕ → ℕ → ℕ) (rt re st se : List ℕ) (i j part len : ℕ) → part ≡ len / 7 → {a b c d x y : ℕ}
-    → Counted (linesSum p rt re st se i j part 1 7 part) (part * 448) a b → Counted (runSum p rt re st se (i + 7 * part) (j + 7 * part) 1 (len % 7)) (len % 7 * 64) c d
+pub sevenths-counted : (p : List ℕ → ℕ → ℕ) (rt re st se : List ℕ) (i j seventh len : ℕ) → seventh ≡ len / 7 → {a b c d x y : ℕ}
+    → Counted (linesSum p rt re st se i j seventh 1 7 seventh) (seventh * 448) a b → Counted (runSum p rt re st se (i + 7 * seventh) (j + 7 * seventh) 1 (len % 7)) (len % 7 * 64) c d
     → (x ≡ a + c) × (y ≡ b + d) → Counted (runSum p rt re st se i j 1 len) (len * 64) x y
-parts-counted p rt re st se i j part len is o q e =
-    let n : 7 * part + len % 7 ≡ len = omega arith in
+sevenths-counted p rt re st se i j seventh len is o q e =
+    let n : 7 * seventh + len % 7 ≡ len = omega arith in
     counted-sum o q e (omega arith) (λ g _.
     ap (λ (k : ℕ). runSum p rt re st se i j 1 k g) (sym n)
-    ∙ run-split p rt re st se i j 1 (7 * part) (len % 7) g
-    ∙ ap₂ (λ (u v : ℕ). u + v) (sym (lines-flat p rt re st se i j part 7 g)) (ap₂ (λ (u v : ℕ). runSum p rt re st se u v 1 (len % 7) g) (omega arith) (omega arith)))
+    ∙ run-split p rt re st se i j 1 (7 * seventh) (len % 7) g
+    ∙ ap₂ (λ (u v : ℕ). u + v) (sym (lines-flat p rt re st se i j seventh 7 g)) (ap₂ (λ (u v : ℕ). runSum p rt re st se u v 1 (len % 7) g) (omega arith) (omega arith)))
 
 -- ---- moved rows by a rectangle, and a column at its edge
 
@@ -228,7 +208,7 @@ module _ (rt re st se : List ℕ) (n rows i j m q : ℕ) where
       → Counted (movedRows rt re st se n rows i j m q 0) 8589934592 c d
   moved-whole o l k a = counted-as a (omega arith) (λ g is. sym (rows-whole rt re st se n rows i j m q 0 g is refl o (omega arith)))
 
-  module _ (s : ℕ) (few : rows ≤ 8192) {c d a b x y : ℕ} (e : (x ≡ c + a) × (y ≡ d + b)) where
+  module _ (s : ℕ) (high : rows ≤ 8192) {c d a b x y : ℕ} (e : (x ≡ c + a) × (y ≡ d + b)) where
     pub moved-right : 0 < m → min m q ≡ 0 → m ≤ n → 0 < s → Counted (linesSum (spanned s) rt re st se (i + m) (j + q) n 1 rows (n - m)) 4294967296 c d
         → Counted (runSum (edged 0 (64 - s)) rt re st se (i + (m - 1)) j n rows) (rows * 64) a b → Counted (movedRows rt re st se n rows i j m q s) 8589934592 x y
     moved-right z o l k f g = counted-sum f g e (omega arith) (λ h is. rows-right rt re st se n rows i j m q s h is (m - 1) (omega arith) (omega arith) l k)
@@ -244,7 +224,7 @@ pub record Split (n right left m q s : ℕ) : Type 0 where
   pub alone-is : min m q ≡ 0
   pub right-in : m ≤ n
   pub left-in : q < n
-  pub few : s < 64
+  pub bit-in : s < 64
   pub lag : right + (q * 64 + s) ≡ left + m * 64
 
 pub split : (w n right left : ℕ) → n ≡ wordsPerRow w → min right left ≡ 0 → right + left < w
@@ -252,7 +232,7 @@ pub split : (w n right left : ℕ) → n ≡ wordsPerRow w → min right left �
     let rest = m * 64 - right + left in
     Split n right left m (rest / 64) (rest % 64)
 unfolding wordsPerRow
-split w n right left e o l = record { alone-is = omega arith; right-in = omega arith; left-in = omega arith; few = omega arith; lag = omega arith }
+split w n right left e o l = record { alone-is = omega arith; right-in = omega arith; left-in = omega arith; bit-in = omega arith; lag = omega arith }
 
 -- so many rows from row a on lie inside
 pub rows-fit : (n h a rows size : ℕ) → size ≡ h * n → a + rows ≤ h → a * n + rows * n ≤ size

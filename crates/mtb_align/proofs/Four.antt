@@ -1,5 +1,5 @@
 -- The words of a level, both bitmaps of the reference and then both of the target: each is found at its place, and the costs
--- that they give are those of the frames. Assumes nothing.
+-- that they give are those of the frames.
 use mathlib.Core.Path.{_≡_, refl, sym, ap, ap₂, _∙_, subst, fun-ext}
 use mathlib.Core.List.{List, [], _++_, append-assoc, append-nil}
 use Prim.Native.Nat.{ℕ, _*_, _≤_}
@@ -9,14 +9,15 @@ use lib.Seq.{sets, length-sets, take-at, drop-at}
 use Rattle.definitions.specs.Geometry.{Shift}
 use Rattle.definitions.specs.Threshold.{cut}
 use Rattle.definitions.specs.Bitmap.{bitmapWords}
+use Rattle.definitions.specs.Shrink.{sideAt, levelOf}
 use Rattle.definitions.specs.Difference.{Bitmaps, Counts, bitmapsOf, bitmapsIn, counts}
-use Rattle.definitions.specs.Align.{Exposure}
+use Rattle.definitions.specs.Align.{Options, Exposure, bitmapsAt, countsAt, costOf}
 use Rattle.definitions.specs.Refusals.{FreeUpTo}
-use Rattle.laws.specs.Bitmaps.{IsBitmap}
-use Rattle.laws.specs.Packed.{packed-length, packedThreshold, packedExclusion, threshold-bitmap, exclusion-bitmap, counts-packed}
-use Rattle.laws.specs.Runs.{sets-then}
-use Rattle.laws.specs.Writes.{sets-front, drop-past}
-use Rattle.mtb_align.specs.Search.{mapAt, FourMaps, TwoPairs, pairCounts, costIn, costBetween, packedPair, pairOf, fourOf}
+use Rattle.laws.specs.bitmaps.Bitmaps.{IsBitmap}
+use Rattle.laws.specs.bitmaps.Packed.{packed-length, packedThreshold, packedExclusion, threshold-bitmap, exclusion-bitmap, counts-packed}
+use Rattle.laws.specs.images.Runs.{sets-then}
+use Rattle.laws.specs.general.Writes.{sets-front, drop-past}
+use Rattle.mtb_align.specs.Search.{mapAt, FourMaps, TwoPairs, pairCounts, costIn, packedPair, pairOf, fourOf}
 
 -- ---- a part of a list
 
@@ -127,6 +128,7 @@ module _ (w h tolerance : ℕ) (r t : Exposure) where
       ap₂ (λ (a b : Bitmaps). counts w h a b s) (ap₂ (bitmapsIn w) first second) (ap₂ (bitmapsIn w) third fourth)
       ∙ counts-packed w h (r .samples) (cut (r .samples) (r .percentile)) (t .samples) (cut (t .samples) (t .percentile)) tolerance s
 
-  pub four-costs : costIn four w h ≡ costBetween w h tolerance r t
-  unfolding costIn costBetween
-  four-costs = fun-ext (λ (s : Shift). ap (λ (n : Counts). n .disagreeing) (four-counts s))
+-- the costs are those of the frames themselves, level 0
+pub four-costs : (o : Options) (w h : ℕ) (r t : Exposure) → costIn (fourOf w h (o .tolerance) r t) w h ≡ costOf o w h r t 0
+unfolding costIn countsAt bitmapsAt sideAt levelOf
+four-costs o w h r t = fun-ext (λ (s : Shift). ap (λ (n : Counts). n .disagreeing) (four-counts w h (o .tolerance) r t s))

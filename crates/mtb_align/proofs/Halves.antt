@@ -1,17 +1,16 @@
--- Halving in either mode: what a loop along a row and a loop over the rows have stored, and that each row lies inside.
--- Assumes nothing.
+-- Halving in either mode: the sample that a turn along a row stores, what a loop over the rows has stored, and that each row lies inside.
 use mathlib.Core.Path.{_≡_, refl, sym, ap, _∙_}
 use mathlib.Core.List.{List}
-use Prim.Native.Nat.{ℕ, _+_, _*_, _/_, _<_, _≤_}
+use Prim.Native.Nat.{ℕ, _+_, _*_, _/_, _%_, _<_, _≤_}
 use native.Mathlib.Nat.{mul-comm, mul-le-mul-right}
 use native.Mathlib.Omega.{arith}
-use lib.ListN.{length, set, length-set}
-use lib.Seq.{sets, length-sets}
+use lib.ListN.{length, getD, drop}
+use lib.Seq.{sets, length-sets, getD-drop}
 use Rattle.definitions.specs.Build.{build, joined}
-use Rattle.definitions.specs.Shrink.{Shrink, halvedSample, shrink2}
-use Rattle.laws.specs.Lists.{build-length, image-length}
-use Rattle.laws.specs.Sizes.{row-inside}
-use Rattle.laws.specs.Writes.{store-none, store-more, rows-none, rows-more, sets-whole}
+use Rattle.definitions.specs.Shrink.{Shrink, mean, average, subsample, halvedSample, shrink2}
+use Rattle.laws.specs.general.Lists.{build-length, image-length}
+use Rattle.laws.specs.images.Sizes.{row-inside}
+use Rattle.laws.specs.general.Writes.{rows-none, rows-more, sets-whole}
 
 -- sample x of row y
 abbrev pub halved : Shrink → List ℕ → ℕ → ℕ → ℕ → ℕ
@@ -21,19 +20,26 @@ halved mode s w y x = halvedSample mode s w x y
 abbrev pub halvedRow : Shrink → List ℕ → ℕ → ℕ → List ℕ
 halvedRow mode s w y = build (w / 2) (halved mode s w y)
 
--- ---- along row y: x samples are stored from `at` on
+-- ---- sample x of row y, of the frame that stands in l from `from` on: its upper two samples start at top + 2 * x
 
-pub record Samples (mode : Shrink) (s : List ℕ) (w y at : ℕ) (old new : List ℕ) (x : ℕ) : Type 0 where
-  pub long : length new ≡ length old
-  pub are : new ≡ sets old at (build x (halved mode s w y))
+module _ (l : List ℕ) (from w x y top : ℕ) (e : top ≡ from + 2 * y * w) where
+  pub left-is : getD l (top + 2 * x) 0 ≡ halved subsample (drop from l) w y x
+  unfolding halvedSample
+  left-is =
+      let here : top + 2 * x ≡ from + (2 * y * w + 2 * x) = omega arith in
+      simp getD-drop (cc)
 
-pub no-samples : (mode : Shrink) (s : List ℕ) (w y at : ℕ) (old : List ℕ) → Samples mode s w y at old old 0
-no-samples mode s w y at old = record { long = refl; are = store-none old at (halved mode s w y) }
-
-pub one-sample : {mode : Shrink} {s : List ℕ} {w y at : ℕ} {old new : List ℕ} {x v : ℕ} → Samples mode s w y at old new x → v ≡ halved mode s w y x
-    → Samples mode s w y at old (set new (at + x) v) (x + 1)
-one-sample {mode} {s} {w} {y} {at} {old} {new} {x} {v} q e =
-    record { long = length-set new (at + x) v ∙ q .long; are = store-more old at x (halved mode s w y) (q .are) e }
+  -- the mean of the block, by p and q, which have two samples side by side each
+  pub mean-is : (p q : ℕ) → (p % 256 ≡ getD l (top + 2 * x) 0) × (p / 256 ≡ getD l (top + 2 * x + 1) 0)
+      → (q % 256 ≡ getD l (top + w + 2 * x) 0) × (q / 256 ≡ getD l (top + w + 2 * x + 1) 0)
+      → mean (p % 256) (p / 256) (q % 256) (q / 256) ≡ halved average (drop from l) w y x
+  unfolding halvedSample
+  mean-is p q (a, b) (c, d) =
+      let here : top + 2 * x ≡ from + (2 * y * w + 2 * x) = omega arith in
+      let right : top + 2 * x + 1 ≡ from + (2 * y * w + (2 * x + 1)) = omega arith in
+      let under : top + w + 2 * x ≡ from + ((2 * y + 1) * w + 2 * x) = omega arith in
+      let last : top + w + 2 * x + 1 ≡ from + ((2 * y + 1) * w + (2 * x + 1)) = omega arith in
+      simp getD-drop (cc)
 
 -- ---- over the rows: y rows are stored from `at` on
 

@@ -1,4 +1,4 @@
--- Samples counted into four lanes of 256 bins: the room of a count, none, one more, all. Assumes nothing.
+-- Samples counted into four lanes of 256 bins: the room of a count, none, one more, all.
 use mathlib.Core.Path.{_≡_, refl, sym, ap, _∙_}
 use mathlib.Core.Bool.{Bool, true, false}
 use mathlib.Core.List.{List}
@@ -12,9 +12,9 @@ use lib.Seq.{getD-set-same, getD-set-other, take-all}
 use Rattle.definitions.specs.Sum.{bit}
 use Rattle.definitions.specs.Build.{build}
 use Rattle.definitions.specs.Threshold.{binOf, bins}
-use Rattle.laws.specs.Lists.{build-same}
-use Rattle.laws.specs.Counts.{count-none, count-more, count-le}
-use Rattle.laws.specs.Cut.{Bytes}
+use Rattle.laws.specs.general.Lists.{build-same}
+use Rattle.laws.specs.general.Counts.{count-none, count-more, count-le}
+use Rattle.laws.specs.images.Cut.{Bytes}
 use Rattle.mtb_align.specs.Tally.{laneTotal, Tally}
 
 -- where the lanes start

@@ -1,5 +1,5 @@
 -- The search over the nine, over plain values: the code's table, where the search starts, one shift more, and what it has found after
--- all nine. Assumes nothing.
+-- all nine.
 use mathlib.Core.Path.{_≡_, refl, sym, ap, _∙_}
 use mathlib.Core.Bool.{Bool, true, false, cond}
 use mathlib.Core.List.{List, [], _∷_}
@@ -9,15 +9,15 @@ use native.Mathlib.Omega.{arith}
 use borrow.Author.Tests.{ltb-true, ltb-false}
 use lib.Dec.{ltb, lit≤}
 use lib.IntN.{ℤ, pos, negsuc}
-use lib.ListN.{drop, getD, List·getD-map}
+use lib.ListN.{length, drop, getD, List·getD-map}
 use lib.Seq.{drop-cons}
 use Rattle.definitions.specs.Geometry.{Shift, origin, offset}
-use Rattle.definitions.specs.Align.{candidates, tried, leastFrom, earliestLeast, refine}
-use Rattle.laws.specs.Least.{least-better, least-no-better, tried-nine}
-use Rattle.laws.specs.Steps.{Within}
-use Rattle.mtb_align.specs.declared.align.Found.{Found}
+use Rattle.definitions.specs.Align.{candidates, tried, leastFrom, earliestLeast, refine, refined}
+use Rattle.laws.specs.search.Least.{least-better, least-no-better, tried-nine}
+use Rattle.laws.specs.search.StepBounds.{Within}
+use Rattle.mtb_align.specs.declared.align.Candidate.{Candidate}
 use Rattle.mtb_align.specs.declared.geometry.Shift as code
-use Rattle.mtb_align.specs.Answers.{shiftIn}
+use Rattle.mtb_align.specs.Answers.{shiftIn, steppedIn}
 
 -- ---- the table
 
@@ -48,7 +48,7 @@ candidate-within (suc (suc (suc (suc (suc (suc (suc (suc (suc n))))))))) = recor
 -- ---- the search
 
 -- the best of the first i shifts that are tried, with its cost: what is left of the search gives its answer
-pub record Searched (cost : Shift → ℕ) (around : Shift) (best : Found) (i : ℕ) : Type 0 where
+pub record Searched (cost : Shift → ℕ) (around : Shift) (best : Candidate) (i : ℕ) : Type 0 where
   pub priced : best .error ≡ cost (shiftIn (best .shift))
   pub rest : leastFrom cost (shiftIn (best .shift)) (drop i (tried cost around)) ≡ refine cost around
 
@@ -64,7 +64,7 @@ module _ {cost : Shift → ℕ} {around : Shift} where
   first s e p q = record { priced = q; rest = ap (λ (b : Shift). leastFrom cost b (drop 1 (tried cost around))) p }
 
   -- one more
-  pub next : {best : Found} {i : ℕ} → Searched cost around best i → i < 9 → (s : code.Shift) (e : ℕ)
+  pub next : {best : Candidate} {i : ℕ} → Searched cost around best i → i < 9 → (s : code.Shift) (e : ℕ)
       → shiftIn s ≡ offset around (shiftIn (candidate i)) → e ≡ cost (shiftIn s)
       → Searched cost around (cond (ltb e (best .error)) (record { shift = s; error = e }) best) (i + 1)
   next {best} {i} f l s e p q = on (ltb e (best .error)) refl
@@ -91,6 +91,14 @@ module _ {cost : Shift → ℕ} {around : Shift} where
       }
 
   -- after all nine
-  pub found : {best : Found} {i : ℕ} → Searched cost around best i → i ≡ 9 → shiftIn (best .shift) ≡ refine cost around
+  best-found : {best : Candidate} {i : ℕ} → Searched cost around best i → i ≡ 9 → shiftIn (best .shift) ≡ refine cost around
   unfolding leastFrom tried
-  found f e = rw e at (f .rest)
+  best-found f e = rw e at (f .rest)
+
+  pub found : {best : Candidate} {i made : ℕ} → Searched cost around best i → i ≡ 9 → made ≡ i
+      → steppedIn (record { shift = best .shift; comparisons = made }) ≡ refined cost around
+  unfolding refined
+  found {best} {i} {made} f e m =
+      let s : shiftIn (best .shift) ≡ refine cost around = best-found f e in
+      let n : made ≡ length (tried cost around) = m ∙ e ∙ sym (tried-nine cost around) in
+      λ j. record { shift = s j; comparisons = n j }

@@ -1,25 +1,25 @@
 -- What the branches of a bitmap's calls give, by the words of a row as the code has them, n: a word of a row lies inside the
--- bitmap, and each check refuses or is passed. Assumes nothing.
+-- bitmap, and each check refuses or is passed.
 use mathlib.Core.Path.{_≡_, sym, ap, _∙_}
 use mathlib.Core.List.{List, [], _∷_}
 use Prim.Native.Nat.{ℕ, _+_, _*_, _≤_, _<_}
 use native.Mathlib.Omega.{arith}
 use Rattle.definitions.specs.Bitmap.{wordsPerRow, bitmapWords}
 use Rattle.definitions.specs.Refusals.{Check, Answer, accepted, refused, answer, sideOver, wrongLength, pixelChecks}
-use Rattle.laws.specs.Bitmaps.{bitmap-most}
-use Rattle.laws.specs.Checks.{sides-skip, length-stop, length-skip, pixel-stop, pixel-skip, done}
-use Rattle.laws.specs.Sizes.{row-inside}
+use Rattle.laws.specs.bitmaps.Bitmaps.{bitmap-most}
+use Rattle.laws.specs.checks.Checks.{sides-skip, length-stop, length-skip, pixel-stop, pixel-skip, done}
+use Rattle.laws.specs.images.Sizes.{row-inside}
 
 module _ (w h n : ℕ) (e : n ≡ wordsPerRow w) (s : (w ≤ 8192) × (h ≤ 8192)) where
   are : h * n ≡ bitmapWords w h
   are = ap (λ (k : ℕ). h * k) e
 
-  pub few : h * n ≤ 1048576
-  few = omega (arith, are, bitmap-most w h (s .0) (s .1))
+  pub bitmap-fits : h * n ≤ 1048576
+  bitmap-fits = omega (arith, are, bitmap-most w h (s .0) (s .1))
 
   -- word k of row y
   pub inside : (k y : ℕ) → k < wordsPerRow w → y < h → (y * n + k < h * n) × (h * n ≤ 1048576)
-  inside k y p q = (omega (arith, row-inside n h y q), few)
+  inside k y p q = (omega (arith, row-inside n h y q), bitmap-fits)
 
   module _ {A : Type 0} (a : A) (words : ℕ) where
     -- the sides pass, and the length refuses or passes

@@ -1,4 +1,4 @@
--- The words of a row: a full one, and the last one of fewer than 64 pixels, as the definition has them. Assumes nothing.
+-- The words of a row: a full one, and the last one of fewer than 64 pixels, as the definition has them.
 use mathlib.Core.Path.{_≡_, sym, ap, _∙_}
 use mathlib.Core.Bool.{Bool, cond}
 use mathlib.Core.List.{List}
@@ -11,9 +11,9 @@ use lib.Seq.{sets}
 use borrow.Author.Tests.{lt-ltb, le-ltb}
 use Rattle.definitions.specs.Build.{build, joined, sample}
 use Rattle.definitions.specs.Bitmap.{wordsPerRow, bitmapWords, wordOf, packed}
-use Rattle.laws.specs.Lists.{build-length, joined-length}
-use Rattle.laws.specs.WordsOf.{word-ext, word-upto}
-use Rattle.laws.specs.Writes.{store-more, rows-more, sets-whole}
+use Rattle.laws.specs.general.Lists.{build-length, joined-length}
+use Rattle.laws.specs.bitmaps.WordsOf.{word-ext, word-upto}
+use Rattle.laws.specs.general.Writes.{store-more, rows-more, sets-whole}
 use Rattle.mtb_align.specs.Packing.{bitsFrom, rowWords}
 
 module _ (s : List ℕ) (test : ℕ → ℕ) (from w : ℕ) where
@@ -75,10 +75,13 @@ module _ (s : List ℕ) (test : ℕ → ℕ) (w h : ℕ) where
   row-at-words y = row-words w (bitsFrom s test (y * w))
 
   -- one more
-  pub rows-turn : (l : List ℕ) (y : ℕ) {m new : List ℕ} → m ≡ sets l 0 (joined y rowAt) → new ≡ sets m (y * wordsPerRow w) (rowWords w (bitsFrom s test (y * w)))
+  pub rows-turn : (l : List ℕ) (y : ℕ) {n : ℕ} {m new : List ℕ} → n ≡ wordsPerRow w → m ≡ sets l 0 (joined y rowAt)
+      → new ≡ sets m (y * n) (rowWords w (bitsFrom s test (y * w)))
       → new ≡ sets l 0 (joined (y + 1) rowAt)
   unfolding rowAt
-  rows-turn l y {m} e q = rows-more l 0 (wordsPerRow w) y rowAt row-at-words e (q ∙ ap (λ (k : ℕ). sets m k (rowAt y)) (sym (zero-add (y * wordsPerRow w))))
+  rows-turn l y {n} {m} are e q =
+      rows-more l 0 (wordsPerRow w) y rowAt row-at-words e
+      (q ∙ ap (λ (k : ℕ). sets m k (rowAt y)) (ap (λ (k : ℕ). y * k) are ∙ sym (zero-add (y * wordsPerRow w))))
 
   -- all of them
   pub rows-all : (l : List ℕ) → length l ≡ bitmapWords w h → {m : List ℕ} {y : ℕ} → y ≡ h → m ≡ sets l 0 (joined y rowAt) → m ≡ packed w h (λ (x y : ℕ). test (sample s w x y))

@@ -1,4 +1,4 @@
--- Both bits of up to 32 samples in one number, and two such numbers as two words. Assumes nothing.
+-- Both bits of up to 32 samples in one number, and two such numbers as two words.
 use mathlib.Core.Path.{_≡_, sym, ap, ap₂, _∙_}
 use mathlib.Core.List.{List}
 use Prim.Native.Nat.{ℕ, _+_, _-_, _*_, _/_, _%_, _^_, _≤_, _<_}
@@ -11,20 +11,12 @@ use lib.Pow.{pow-mono, shl-exact}
 use Rattle.definitions.specs.Sum.{bit}
 use Rattle.definitions.specs.Threshold.{thresholdBit, exclusionBit, distance}
 use Rattle.definitions.specs.Bitmap.{wordOf}
-use Rattle.laws.specs.Cases.{bit-le}
-use Rattle.laws.specs.Lists.{build-at}
-use Rattle.laws.specs.WordsOf.{word-none, word-more, word-ext, word-lt, word-split}
+use Rattle.laws.specs.general.Lists.{build-at}
+use Rattle.laws.specs.bitmaps.Packed.{threshold-lt, exclusion-lt}
+use Rattle.laws.specs.bitmaps.WordsOf.{word-none, word-more, word-ext, word-lt, word-split}
 use Rattle.mtb_align.specs.Packing.{entryOf, tableOf, bitsFrom, twoOf}
 
 -- ---- the bits of a sample
-
-pub threshold-lt : (c v : ℕ) → thresholdBit c v < 2
-unfolding thresholdBit
-threshold-lt c v = omega (arith, bit-le (ltb c v))
-
-pub exclusion-lt : (c t v : ℕ) → exclusionBit c t v < 2
-unfolding exclusionBit
-exclusion-lt c t v = omega (arith, bit-le (ltb t (distance v c)))
 
 entry-is : (c t v a b : ℕ) → a ≡ bit (ltb c v) → b ≡ bit (ltb t (distance v c)) → a + b * 4294967296 ≡ entryOf c t v
 unfolding entryOf thresholdBit exclusionBit

@@ -5,7 +5,8 @@ use mathlib.Core.Bool.{Bool}
 use Rattle.definitions.specs.Shrink as halving
 use Rattle.definitions.specs.Refusals.{Answer, accepted, refused}
 use Rattle.mtb_align.specs.declared.error.Error.{Error}
-use Rattle.mtb_align.specs.declared.error.Error.the-variants.{Side, Length, Percentile, SizeMismatch, FrameMismatch, NoSuchReference, Frames, Scratch, Padding, Reach, Records, Outside, Coordinate}
+use Rattle.mtb_align.specs.declared.error.Error.the-variants.{Side, Length, Percentile, SizeMismatch, FrameMismatch, NoSuchReference, Frames, Scratch, Padding, Reach, Records, Outside}
+use Rattle.mtb_align.specs.declared.error.Error.the-variants.{Coordinate}
 use Rattle.mtb_align.specs.declared.bitmap.PixelAnswer.{PixelAnswer}
 use Rattle.mtb_align.specs.declared.bitmap.PixelAnswer.the-variants as pixels
 use Rattle.mtb_align.specs.declared.bitmap.TotalAnswer.{TotalAnswer}
@@ -17,8 +18,8 @@ use Rattle.mtb_align.specs.declared.threshold.CutAnswer.the-variants as 
 use Rattle.definitions.specs.Geometry as geometry
 use Rattle.mtb_align.specs.declared.geometry.Shift.{Shift}
 use Rattle.mtb_align.specs.declared.geometry.Rect.{Rect}
-use Rattle.mtb_align.specs.declared.geometry.Place.{Place}
-use Rattle.mtb_align.specs.declared.geometry.Place.the-variants as places
+use Rattle.mtb_align.specs.declared.geometry.SourcePlace.{SourcePlace}
+use Rattle.mtb_align.specs.declared.geometry.SourcePlace.the-variants as sources
 use Rattle.mtb_align.specs.declared.geometry.ShiftAnswer.{ShiftAnswer}
 use Rattle.mtb_align.specs.declared.geometry.ShiftAnswer.the-variants as moves
 use Rattle.mtb_align.specs.declared.geometry.CropAnswer.{CropAnswer}
@@ -28,10 +29,10 @@ use Rattle.mtb_align.specs.declared.difference.Counts.{Counts}
 use Rattle.mtb_align.specs.declared.difference.CountsAnswer.{CountsAnswer}
 use Rattle.mtb_align.specs.declared.difference.CountsAnswer.the-variants as counted
 use Rattle.definitions.specs.Align as search
-use Rattle.mtb_align.specs.declared.align.LevelPlace.{LevelPlace}
-use Rattle.mtb_align.specs.declared.align.Need.{Need}
-use Rattle.mtb_align.specs.declared.align.NeedAnswer.{NeedAnswer}
-use Rattle.mtb_align.specs.declared.align.NeedAnswer.the-variants as needs
+use Rattle.mtb_align.specs.declared.levels.LevelPlace.{LevelPlace}
+use Rattle.mtb_align.specs.declared.checks.Need.{Need}
+use Rattle.mtb_align.specs.declared.checks.NeedAnswer.{NeedAnswer}
+use Rattle.mtb_align.specs.declared.checks.NeedAnswer.the-variants as needs
 use Rattle.mtb_align.specs.declared.align.Step.{Step}
 use Rattle.mtb_align.specs.declared.align.StepAnswer.{StepAnswer}
 use Rattle.mtb_align.specs.declared.align.StepAnswer.the-variants as steps
@@ -104,9 +105,9 @@ abbrev pub shiftIn : Shift → geometry.Shift
 shiftIn s = record { x = s .x; y = s .y }
 
 -- A source of a place.
-abbrev pub placeIn : Place → geometry.Source
-placeIn (places.Inside i) = geometry.inside i
-placeIn places.Outside = geometry.outside
+abbrev pub sourceIn : SourcePlace → geometry.Source
+sourceIn (sources.Inside i) = geometry.inside i
+sourceIn sources.Outside = geometry.outside
 
 -- A region.
 abbrev pub rectIn : Rect → geometry.Rect
@@ -143,13 +144,9 @@ needAnswer (needs.Needed n) = accepted (needIn n)
 needAnswer (needs.Refused e) = refusal e
 
 -- A step with the number of comparisons made.
-pub record Stepped : Type 0 where
-  pub shift : geometry.Shift
-  pub comparisons : ℕ
-
-abbrev pub steppedIn : Step → Stepped
+abbrev pub steppedIn : Step → search.Stepped
 steppedIn s = record { shift = shiftIn (s .shift); comparisons = s .comparisons }
 
-abbrev pub stepAnswer : StepAnswer → Answer Stepped
+abbrev pub stepAnswer : StepAnswer → Answer search.Stepped
 stepAnswer (steps.Stepped s) = accepted (steppedIn s)
 stepAnswer (steps.Refused e) = refusal e

@@ -1,21 +1,18 @@
--- What the walk over the levels is given: two frames of one size, and the halved levels of both in one scratch.
+-- What the walk over the levels is given: two frames, and the halved levels of both in one scratch.
 use Prim.Native.Nat.{ℕ, _*_, _≤_}
 use mathlib.Core.Path.{_≡_}
 use mathlib.Core.List.{List}
 use lib.ListN.{length, take, drop}
-use Rattle.definitions.specs.Shrink.{Shrink, halvedSamples, pyramid}
-use Rattle.definitions.specs.Align.{Exposure, stepWords}
+use Rattle.definitions.specs.Shrink.{halvedSamples, pyramid}
+use Rattle.mtb_align.specs.declared.pairs.TwoFrames.{TwoFrames}
+use Rattle.mtb_align.specs.Answers.{modeOf}
+use Rattle.mtb_align.specs.Search.{InHand}
 
 -- The reference's halved levels 1 to `last` stand in the bytes from their start, the target's behind them.
-pub record Levelled (mode : Shrink) (w h last : ℕ) (reference target : Exposure) (bytes words : List ℕ) : Type 0 where
-  pub wide : w ≤ 8192
-  pub high : h ≤ 8192
+pub record Levelled (f : TwoFrames) (last : ℕ) (reference target bytes : List ℕ) (words : ℕ) : Type 0 where
+  pub frames : InHand f (length reference) (length target) words
   pub few : last ≤ 12
-  pub first : reference .percentile ≤ 100
-  pub second : target .percentile ≤ 100
-  pub reference-whole : length (reference .samples) ≡ w * h
-  pub target-whole : length (target .samples) ≡ w * h
-  pub room : 2 * halvedSamples w h last ≤ length bytes
-  pub reference-halved : take (halvedSamples w h last) bytes ≡ pyramid mode w h (reference .samples) last
-  pub target-halved : take (halvedSamples w h last) (drop (halvedSamples w h last) bytes) ≡ pyramid mode w h (target .samples) last
-  pub space : stepWords w h ≤ length words
+  pub room : 2 * halvedSamples (f .width) (f .height) last ≤ length bytes
+  pub reference-halved : take (halvedSamples (f .width) (f .height) last) bytes ≡ pyramid (modeOf (f .options .shrink)) (f .width) (f .height) reference last
+  pub target-halved : take (halvedSamples (f .width) (f .height) last) (drop (halvedSamples (f .width) (f .height) last) bytes)
+      ≡ pyramid (modeOf (f .options .shrink)) (f .width) (f .height) target last

@@ -10,106 +10,110 @@ use lib.ListN.{length, getD, drop}
 use lib.Seq.{drop-at}
 use Rattle.definitions.specs.Build.{build}
 use Rattle.definitions.specs.Geometry.{listed}
-use Rattle.definitions.specs.Align.{stackOf, shifts}
+use Rattle.definitions.specs.Align.{stackOf, shifts, stackBytes, stackWords}
 use Rattle.definitions.specs.Refusals.{Check, Answer, accepted, refused, answer, FreeUpTo}
 use Rattle.definitions.specs.Report.{Record, records, recordsNeeded, recordsBytes, recordAt, verdict, verdicts}
-use Rattle.laws.specs.Checks.{FirstFails, first-fails, all-pass, same-value, accepted-too, after-accepted, after-refused}
-use Rattle.laws.specs.ChecksReport.{SurveyInOrder, survey-in-order, survey-refused, accepted-fits, refused-either}
-use Rattle.laws.specs.Demand.{NamesRivals, Judges, Crops, demand-three}
-use Rattle.laws.specs.Free.{free-after, kept-after}
-use Rattle.laws.specs.Lists.{build-length, build-at}
-use Rattle.laws.specs.Records.{records-number, report-bytes}
-use Rattle.laws.specs.Steps.{Small}
-use Rattle.mtb_align.specs.Survey.{Reported, Asked, stackAsked, firstChecks, allChecks, reportedOf, bytesNeeded, wordsNeeded}
-use Rattle.mtb_align.specs.Promise.{Lent, ReportPromise}
+use Rattle.laws.specs.checks.Checks.{FirstFails, first-fails, all-pass, same-value, accepted-too, after-accepted, after-refused}
+use Rattle.laws.specs.checks.ChecksReport.{SurveyInOrder, survey-in-order, survey-refused, accepted-fits, refused-either}
+use Rattle.laws.specs.report.Demand.{NamesRivals, Judges, Crops, demand-three}
+use Rattle.laws.specs.search.Free.{free-after, kept-after}
+use Rattle.laws.specs.general.Lists.{build-length, build-at}
+use Rattle.laws.specs.report.Records.{records-number, report-bytes}
+use Rattle.laws.specs.search.StepBounds.{Small}
+use Rattle.mtb_align.specs.Survey.{Reported}
+use Rattle.mtb_align.specs.Asked.{itself, ReportAsked, stackReported, firstChecks, allChecks, reportedOf, ReportLent, ReportPromise}
+
+-- What an accepted report answers.
+abbrev promised : ReportAsked → Reported
+promised a = reportedOf (stackReported a) (a .terms)
 
 -- The first n records that the record space holds, read back from their bytes.
-abbrev pub recordsRead : ℕ → Lent → List Record
-recordsRead n lent = build n (recordAt (lent .records))
+abbrev pub recordsRead : ℕ → ReportLent → List Record
+recordsRead n lent = build n (recordAt (lent .lists .records))
 
 -- Both kinds of scratch are free in content as far as they are needed.
-pub record ScratchFree (a : Asked) (old new : Lent) : Type 0 where
-  pub bytes : FreeUpTo (bytesNeeded a) (old .bytes) (new .bytes)
-  pub words : FreeUpTo (wordsNeeded a) (old .words) (new .words)
+pub record ScratchFree (a : ReportAsked) (old new : ReportLent) : Type 0 where
+  pub bytes : FreeUpTo (stackBytes (stackReported a)) (old .bytes) (new .bytes)
+  pub words : FreeUpTo (stackWords (stackReported a)) (old .words) (new .words)
 
 -- An accepted report.
-pub record Acceptance (a : Asked) (s : Reported) (old new : Lent) : Type 0 where
+pub record Acceptance (a : ReportAsked) (s : Reported) (old new : ReportLent) : Type 0 where
   -- every check passes, so that 01's limits hold: at most 16 frames of at most 8,192 by 8,192, a reference among them, a reach of at most 64
   pub passes : (c : Check) → List·Memᴰ c (allChecks a) → c .fails ≡ false
-  pub small : Small (stackAsked a)
+  pub small : Small (stackReported a)
   pub near : a .terms .reach ≤ 64
   -- the answered number of records, read back from the space, are the report's; the bytes past them are as they were
   pub room : 20 * s .records ≤ a .records
-  pub read : recordsRead (s .records) new ≡ records (stackAsked a) (a .terms)
-  pub past : drop (20 * s .records) (new .records) ≡ drop (20 * s .records) (old .records)
+  pub read : recordsRead (s .records) new ≡ records (stackReported a) (a .terms)
+  pub past : drop (20 * s .records) (new .lists .records) ≡ drop (20 * s .records) (old .lists .records)
   -- what is read back names each rival of each frame exactly once and no other shift, with both counts, in order
-  pub rivals : NamesRivals (stackAsked a) (a .terms) (recordsRead (s .records) new)
+  pub rivals : NamesRivals (stackReported a) (a .terms) (recordsRead (s .records) new)
   -- a verdict for each frame, which means what 01 says
-  pub number : length (new .verdicts) ≡ stackAsked a .frames
-  pub judged : (k : ℕ) → k < stackAsked a .frames → Judges (stackAsked a) (a .terms) k (getD (new .verdicts) k 0)
+  pub number : length (new .lists .verdicts) ≡ stackReported a .frames
+  pub judged : (k : ℕ) → k < stackReported a .frames → Judges (stackReported a) (a .terms) k (getD (new .lists .verdicts) k 0)
   -- the shifts of the stack, and a crop of exactly the places that every moved frame covers
-  pub moved : new .shifts ≡ listed (shifts (stackAsked a))
-  pub cropped : Crops (stackAsked a) (s .crop)
+  pub moved : new .lists .shifts ≡ listed (shifts (stackReported a))
+  pub cropped : Crops (stackReported a) (s .crop)
   pub scratch : ScratchFree a old new
 
 -- A report that is refused with 10: the values are the number of records, which the space does not hold.
-pub record Ten (a : Asked) (values : List ℕ) (old new : Lent) : Type 0 where
-  pub number : values ≡ length (records (stackAsked a) (a .terms)) ∷ []
-  pub short : a .records < 20 * length (records (stackAsked a) (a .terms))
-  pub rivals : NamesRivals (stackAsked a) (a .terms) (records (stackAsked a) (a .terms))
+pub record Ten (a : ReportAsked) (values : List ℕ) (old new : ReportLent) : Type 0 where
+  pub number : values ≡ length (records (stackReported a) (a .terms)) ∷ []
+  pub short : a .records < 20 * length (records (stackReported a) (a .terms))
+  pub rivals : NamesRivals (stackReported a) (a .terms) (records (stackReported a) (a .terms))
   pub scratch : ScratchFree a old new
 
 -- A refused report: the number and the values of the first check that fails, and every list as it was, but for the scratch of 10.
-pub record Refusal (a : Asked) (number : ℕ) (values : List ℕ) (old new : Lent) : Type 0 where
+pub record Refusal (a : ReportAsked) (number : ℕ) (values : List ℕ) (old new : ReportLent) : Type 0 where
   pub first : FirstFails (allChecks a) number values
-  pub shifts : new .shifts ≡ old .shifts
-  pub verdicts : new .verdicts ≡ old .verdicts
-  pub records : new .records ≡ old .records
+  pub shifts : new .lists .shifts ≡ old .lists .shifts
+  pub verdicts : new .lists .verdicts ≡ old .lists .verdicts
+  pub records : new .lists .records ≡ old .lists .records
   pub scratch : (number ≡ 10 → ⊥) → (new .bytes ≡ old .bytes) × (new .words ≡ old .words)
   pub ten : number ≡ 10 → Ten a values old new
 
 -- What is owed for an answer.
-abbrev pub Owed : Asked → Answer Reported → Lent → Lent → Type 0
+abbrev pub Owed : ReportAsked → Answer Reported → ReportLent → ReportLent → Type 0
 Owed a (accepted s) old new = Acceptance a s old new
 Owed a (refused number values) old new = Refusal a number values old new
 
-module _ (a : Asked) (old new : Lent) where
+module _ (a : ReportAsked) (old new : ReportLent) where
   -- the checks up to the scratch pass: 01's limits hold
   module _ (first : answer (firstChecks a) (tt {0}) ≡ accepted tt) where
-    in-order : SurveyInOrder (a .widths) (a .heights) (a .percentile) (a .reference) (a .options .bits) (length (a .samples)) (a .shifts) (a .verdicts)
-        (a .terms .reach) (a .bytes) (a .words)
-    in-order = survey-in-order _ _ _ _ _ _ _ _ _ _ _ (sym first)
+    in-order : SurveyInOrder (stackReported a) (length (a .stack .heights)) (a .stack .shifts) (a .verdicts) (a .terms .reach) (a .stack .bytes) (a .stack .words)
+    in-order =
+        let s = a .stack in
+        survey-in-order (s .widths) (s .heights) (s .samples) (s .reference) (s .percentile) (s .options) _ _ _ _ _ (sym first)
 
-    within : Small (stackAsked a)
-    unfolding stackOf
-    within = let f = in-order .stack .frames in record { width = f .wide; height = f .high; frames = f .few; reference = f .among }
+    within : Small (stackReported a)
+    within = in-order .stack .small
 
-    free : {r : Answer Reported} → ReportPromise a r old new → ScratchFree a old new
+    free : {r : Answer Reported} → ReportPromise itself a r old new → ScratchFree a old new
     free p = record {
-      bytes = free-after (firstChecks a) (bytesNeeded a) first (p .4);
-      words = free-after (firstChecks a) (wordsNeeded a) first (p .5);
+      bytes = free-after (firstChecks a) (stackBytes (stackReported a)) first (p .pixels);
+      words = free-after (firstChecks a) (stackWords (stackReported a)) first (p .maps);
     }
 
-  acceptance : (s : Reported) → ReportPromise a (accepted s) old new → Acceptance a s old new
+  acceptance : (s : Reported) → ReportPromise itself a (accepted s) old new → Acceptance a s old new
   unfolding verdicts
   acceptance s p =
-      let st = stackAsked a in
+      let st = stackReported a in
       let q = a .terms in
       let needed = recordsNeeded st q in
-      let all = sym (p .0) in
-      let fit = accepted-fits (firstChecks a) needed (a .records) (reportedOf a) all in
-      let said : s ≡ reportedOf a = same-value (p .0 ∙ accepted-too (reportedOf a) (reportedOf a) (allChecks a) all) in
+      let all = sym (p .written .answered) in
+      let fit = accepted-fits (firstChecks a) needed (a .records) (promised a) all in
+      let said : s ≡ promised a = same-value (p .written .answered ∙ accepted-too (promised a) (promised a) (allChecks a) all) in
       let count : s .records ≡ needed = ap (λ (r : Reported). r .records) said in
       let small = within (fit .0) in
       let near = in-order (fit .0) .near in
       let table = demand-three st q in
-      let rest = drop (20 * needed) (old .records) in
-      let space : new .records ≡ recordsBytes (records st q) ++ rest = p .3 ∙ after-accepted (reportedOf a) (allChecks a) _ _ all in
-      let judgements : new .verdicts ≡ build (st .frames) (verdict st q) = p .2 ∙ after-accepted (reportedOf a) (allChecks a) _ _ all in
+      let rest = drop (20 * needed) (old .lists .records) in
+      let space : new .lists .records ≡ recordsBytes (records st q) ++ rest = p .written .recorded ∙ after-accepted (promised a) (allChecks a) _ _ all in
+      let judgements : new .lists .verdicts ≡ build (st .frames) (verdict st q) = p .written .judged ∙ after-accepted (promised a) (allChecks a) _ _ all in
       let read : recordsRead (s .records) new ≡ records st q =
       ap₂ (λ (n : ℕ) (b : List ℕ). build n (recordAt b)) (count ∙ sym (records-number st q)) space ∙ table .read-back small near rest in
       record {
-        passes = all-pass (reportedOf a) (allChecks a) all;
+        passes = all-pass (promised a) (allChecks a) all;
         small = small;
         near = near;
         room = omega (arith, fit .1, count);
@@ -117,29 +121,29 @@ module _ (a : Asked) (old new : Lent) where
         past =
             ap₂ (λ (n : ℕ) (b : List ℕ). drop (20 * n) b) count space
             ∙ drop-at (recordsBytes (records st q)) rest (20 * needed) (report-bytes st q)
-            ∙ ap (λ (n : ℕ). drop (20 * n) (old .records)) (sym count);
+            ∙ ap (λ (n : ℕ). drop (20 * n) (old .lists .records)) (sym count);
         rivals = subst (NamesRivals st q) (sym read) (table .rivals);
         number = ap length judgements ∙ build-length (st .frames) (verdict st q);
         judged = λ k h. subst (Judges st q k) (sym (ap (λ (l : List ℕ). getD l k 0) judgements ∙ build-at (st .frames) (verdict st q) k 0 h)) (table .judged k);
-        moved = p .1 ∙ after-accepted (reportedOf a) (allChecks a) _ _ all;
+        moved = p .written .placed ∙ after-accepted (promised a) (allChecks a) _ _ all;
         cropped = subst (Crops st) (sym (ap (λ (r : Reported). r .crop) said)) (table .cropped);
         scratch = free (fit .0) p;
       }
 
-  refusal : (number : ℕ) (values : List ℕ) → ReportPromise a (refused number values) old new → Refusal a number values old new
+  refusal : (number : ℕ) (values : List ℕ) → ReportPromise itself a (refused number values) old new → Refusal a number values old new
   refusal number values p =
-      let st = stackAsked a in
+      let st = stackReported a in
       let q = a .terms in
-      let all = sym (p .0) in
+      let all = sym (p .written .answered) in
       let needed = records-number st q in
-      let either = refused-either (firstChecks a) (recordsNeeded st q) (a .records) (reportedOf a) all in
+      let either = refused-either (firstChecks a) (recordsNeeded st q) (a .records) (promised a) all in
       record {
-        first = first-fails (reportedOf a) (allChecks a) all;
-        shifts = p .1 ∙ after-refused (reportedOf a) (allChecks a) _ _ all;
-        verdicts = p .2 ∙ after-refused (reportedOf a) (allChecks a) _ _ all;
-        records = p .3 ∙ after-refused (reportedOf a) (allChecks a) _ _ all;
+        first = first-fails (promised a) (allChecks a) all;
+        shifts = p .written .placed ∙ after-refused (promised a) (allChecks a) _ _ all;
+        verdicts = p .written .judged ∙ after-refused (promised a) (allChecks a) _ _ all;
+        records = p .written .recorded ∙ after-refused (promised a) (allChecks a) _ _ all;
         scratch = λ ne. ⊎-elim
-            (λ e. (kept-after (firstChecks a) (bytesNeeded a) e (p .4), kept-after (firstChecks a) (wordsNeeded a) e (p .5)))
+            (λ e. (kept-after (firstChecks a) (stackBytes (stackReported a)) e (p .pixels), kept-after (firstChecks a) (stackWords (stackReported a)) e (p .maps)))
             (λ t. absurd (ne (t .1)))
             either;
         ten = λ e. ⊎-elim
@@ -154,6 +158,6 @@ module _ (a : Asked) (old new : Lent) where
       }
 
   -- whoever holds the promise of a call is owed it
-  pub report-owed : (r : Answer Reported) → ReportPromise a r old new → Owed a r old new
+  pub report-owed : (r : Answer Reported) → ReportPromise itself a r old new → Owed a r old new
   report-owed (accepted s) p = acceptance s p
   report-owed (refused number values) p = refusal number values p

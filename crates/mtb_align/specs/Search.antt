@@ -1,4 +1,4 @@
--- What the inner functions of the search compute: four bitmaps one after another in a list of words, and the costs at a level.
+-- What the inner functions of the search compute: four bitmaps one after another in a list of words, and the costs of two frames.
 use Prim.Native.Nat.{ℕ, _+_, _*_, _≤_}
 use mathlib.Core.Path.{_≡_}
 use mathlib.Core.List.{List, _++_}
@@ -7,10 +7,13 @@ use Rattle.definitions.specs.Geometry.{Shift}
 use Rattle.definitions.specs.Threshold.{cut}
 use Rattle.definitions.specs.Bitmap.{bitmapWords, packed}
 use Rattle.definitions.specs.Difference.{Counts, bitmapsOf, bitmapsIn, counts}
-use Rattle.definitions.specs.Align.{Options, Exposure}
-use Rattle.laws.specs.Bitmaps.{IsBitmap}
+use Rattle.definitions.specs.Align.{Options, Exposure, Stepped, costOf, stepped, stepWords}
+use Rattle.laws.specs.bitmaps.Bitmaps.{IsBitmap}
 use Rattle.mtb_align.specs.declared.align.Options as code
+use Rattle.mtb_align.specs.declared.pairs.TwoFrames.{TwoFrames}
 use Rattle.mtb_align.specs.Answers.{modeOf}
+
+-- ---- bitmaps
 
 -- Bitmap i of a list of bitmaps of w by h.
 abbrev pub mapAt : List ℕ → ℕ → ℕ → ℕ → List ℕ
@@ -39,19 +42,6 @@ pairCounts words w h s =
 unfoldable pub costIn : List ℕ → ℕ → ℕ → Shift → ℕ
 costIn words w h s = pairCounts words w h s .disagreeing
 
--- The disagreement of two frames of w by h at a shift, each cut at its percentile.
-unfoldable pub costBetween : ℕ → ℕ → ℕ → Exposure → Exposure → Shift → ℕ
-costBetween w h tolerance r t s =
-    counts w h (bitmapsOf w (r .samples) (cut (r .samples) (r .percentile)) tolerance) (bitmapsOf w (t .samples) (cut (t .samples) (t .percentile)) tolerance) s .disagreeing
-
--- A frame with its percentile.
-abbrev pub exposureOf : List ℕ → ℕ → Exposure
-exposureOf samples percentile = record { samples = samples; percentile = percentile }
-
--- What all frames of a search share.
-abbrev pub optionsIn : code.Options → Options
-optionsIn o = record { bits = o .bits; tolerance = o .tolerance; shrink = modeOf (o .shrink) }
-
 -- Both bitmaps of a frame, one after the other.
 unfoldable pub packedPair : ℕ → ℕ → List ℕ → ℕ → ℕ → List ℕ
 packedPair w h s c tolerance = packed w h (bitmapsOf w s c tolerance .threshold) ++ packed w h (bitmapsOf w s c tolerance .exclusion)
@@ -63,3 +53,34 @@ pairOf w h tolerance e = packedPair w h (e .samples) (cut (e .samples) (e .perce
 -- The bitmaps of two frames, the reference's and then the target's.
 unfoldable pub fourOf : ℕ → ℕ → ℕ → Exposure → Exposure → List ℕ
 fourOf w h tolerance r t = pairOf w h tolerance r ++ pairOf w h tolerance t
+
+-- ---- two frames
+
+-- What all frames of a search share.
+abbrev pub optionsIn : code.Options → Options
+optionsIn o = record { bits = o .bits; tolerance = o .tolerance; shrink = modeOf (o .shrink) }
+
+-- The reference, and the target, each with its percentile.
+abbrev pub referenceIn : TwoFrames → List ℕ → Exposure
+referenceIn f samples = record { samples = samples; percentile = f .first }
+
+abbrev pub targetIn : TwoFrames → List ℕ → Exposure
+targetIn f samples = record { samples = samples; percentile = f .second }
+
+-- Two frames within 01's limits by the lengths of their samples, and room for their bitmaps.
+pub record InHand (f : TwoFrames) (reference target words : ℕ) : Type 0 where
+  pub wide : f .width ≤ 8192
+  pub high : f .height ≤ 8192
+  pub first : f .first ≤ 100
+  pub second : f .second ≤ 100
+  pub reference-whole : reference ≡ f .width * f .height
+  pub target-whole : target ≡ f .width * f .height
+  pub maps : stepWords (f .width) (f .height) ≤ words
+
+-- Their costs at each level.
+abbrev pub costsIn : TwoFrames → List ℕ → List ℕ → ℕ → Shift → ℕ
+costsIn f reference target = costOf (optionsIn (f .options)) (f .width) (f .height) (referenceIn f reference) (targetIn f target)
+
+-- Their step.
+abbrev pub steppedOf : TwoFrames → List ℕ → List ℕ → Stepped
+steppedOf f reference target = stepped (optionsIn (f .options)) (f .width) (f .height) (referenceIn f reference) (targetIn f target)

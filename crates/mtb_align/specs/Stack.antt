@@ -1,40 +1,48 @@
--- The stack of a call by its numbers, the step between two of its frames, and what the walk over it needs.
-use Prim.Native.Nat.{ℕ, _*_, _≤_}
+-- The stack in hand, what the walk over it and the survey of its frames need, and its shifts in a list.
+use Prim.Native.Nat.{ℕ, _+_, _*_, _≤_}
+use mathlib.Core.Path.{_≡_}
 use mathlib.Core.List.{List}
-use lib.ListN.{take, drop}
-use Rattle.definitions.specs.Geometry.{Shift}
-use Rattle.definitions.specs.Align.{Stack, step, stepBytes, stepWords, stackNeed}
-use Rattle.mtb_align.specs.declared.align.Options as code
-use Rattle.mtb_align.specs.Search.{exposureOf, optionsIn}
+use lib.IntN.{ℤ, pos}
+use lib.ListN.{length, getD, take}
+use Rattle.definitions.specs.Geometry.{Shift, listed}
+use Rattle.definitions.specs.Align.{Stack, exposure, shifts, stackBytes, stackWords}
+use Rattle.laws.specs.search.StepBounds.{Small}
+use Rattle.mtb_align.specs.declared.walk.Frames.{Frames}
+use Rattle.mtb_align.specs.Search.{optionsIn, fourOf}
 
--- n frames of w by h.
-abbrev pub stackIn : ℕ → ℕ → ℕ → List ℕ → ℕ → code.Options → Stack
-stackIn w h n samples reference o = record {
-  width = w;
-  height = h;
-  frames = n;
+-- The frames with their samples.
+abbrev pub stackIn : Frames → List ℕ → Stack
+stackIn f samples = record {
+  width = f .width;
+  height = f .height;
+  frames = f .count;
   samples = samples;
-  reference = reference;
-  percentile = λ (k : ℕ). o .percentile;
-  options = optionsIn o;
+  reference = f .reference;
+  percentile = λ (k : ℕ). f .options .percentile;
+  options = optionsIn (f .options);
 }
 
--- Frame k of frames of n samples.
-abbrev pub frameIn : List ℕ → ℕ → ℕ → List ℕ
-frameIn samples n k = take n (drop (k * n) samples)
+-- The survey of the frames has what it needs: a stack and a percentile within 01's limits, all samples, and room for four bitmaps.
+pub record Framed (f : Frames) (samples : List ℕ) (words : ℕ) : Type 0 where
+  pub small : Small (stackIn f samples)
+  pub cut : f .options .percentile ≤ 100
+  pub all : f .count * (f .width * f .height) ≤ length samples
+  pub maps : stackWords (stackIn f samples) ≤ words
 
--- The step of frame k against frame j.
-unfoldable pub stepBetween : ℕ → ℕ → List ℕ → code.Options → ℕ → ℕ → Shift
-stepBetween w h samples o j k =
-    step (optionsIn o) w h (exposureOf (frameIn samples (w * h) j) (o .percentile)) (exposureOf (frameIn samples (w * h) k) (o .percentile))
+-- So has the walk: besides, room for two pyramids.
+pub record Ready (f : Frames) (samples : List ℕ) (bytes words : ℕ) : Type 0 where
+  pub framed : Framed f samples words
+  pub pixels : stackBytes (stackIn f samples) ≤ bytes
 
--- The walk over n frames has what it needs: sizes and a percentile within 01's limits, and buffers that are long enough.
-pub record Ready (w h n percentile bits samples shifts bytes words : ℕ) : Type 0 where
-  pub wide : w ≤ 8192
-  pub high : h ≤ 8192
-  pub few : n ≤ 16
-  pub cut : percentile ≤ 100
-  pub frames : n * (w * h) ≤ samples
-  pub list : 2 * n ≤ shifts
-  pub pixels : stackNeed n (stepBytes w h bits) ≤ bytes
-  pub maps : stackNeed n (stepWords w h) ≤ words
+-- The bitmaps of frames j and k.
+abbrev pub fourIn : Stack → ℕ → ℕ → List ℕ
+fourIn a j k = fourOf (a .width) (a .height) (a .options .tolerance) (exposure a j) (exposure a k)
+
+-- Shift k of a list that has x then y for each frame.
+abbrev pub listedAt : List ℤ → ℕ → Shift
+listedAt list k = record { x = getD list (2 * k) (pos 0); y = getD list (2 * k + 1) (pos 0) }
+
+-- The shifts of a stack stand at the front of a list.
+pub record Placed (a : Stack) (list : List ℤ) : Type 0 where
+  pub long : 2 * a .frames ≤ length list
+  pub front : take (2 * a .frames) list ≡ listed (shifts a)

@@ -2,17 +2,25 @@
 use super::error::Error;
 use super::error::Outcome;
 use super::error::side_over;
+use super::numbers::min;
+use super::numbers::saturating_sub;
+use super::ones::ones_in;
 ghost use mathlib.Core.Path.{_≡_};
 ghost use mathlib.Core.Bool.{cond};
 ghost use mathlib.Core.List.{[]};
-ghost use Prim.Native.Nat.{ℕ, _+_, _*_, _%_, _≤_, _<_};
-ghost use lib.Dec.{eqb};
-ghost use lib.ListN.{length, getD};
-ghost use Rattle.definitions.specs.Sum.{bit, sum};
+ghost use Prim.Native.Nat.{ℕ, _+_, _-_, _*_, _/_, _%_, _≤_, _<_};
+ghost use lib.Dec.{ltb, eqb};
+ghost use lib.ListN.{length, replicate};
+ghost use Rattle.definitions.specs.Sum.{bit};
+ghost use Rattle.definitions.specs.Threshold.{thresholdBit, exclusionBit};
+ghost use lib.Seq.{sets};
 ghost use Rattle.definitions.specs.Bitmap.{wordsPerRow, bitmapWords, bitOf, wordOf, bitAt, withBit, total, paddingSet, rowOf};
 ghost use Rattle.definitions.specs.Refusals.{answer, after, pixelChecks, totalChecks, rowChecks};
-ghost use Rattle.laws.specs.Adders.{bitsApart};
 ghost use Rattle.mtb_align.specs.Answers.{outcome, pixelAnswer, totalAnswer};
+ghost use Rattle.mtb_align.specs.Packing.{tableOf, bitsFrom, twoOf};
+
+// Bits per word.
+pub(crate) const WORD_BITS: usize = 64;
 
 pub enum PixelAnswer {
     Pixel(bool),
@@ -29,52 +37,26 @@ pub(crate) fn words_per_row(width: usize) -> usize
     requires { ⌜ width ≤ 8192 ⌝ }
     ensures { λ r. ⌜ r ≡ wordsPerRow width ⌝ }
 {
-    (width + 63) / 64
+    (width + 63) / WORD_BITS
 }
 
-// How many bits of a word are set.
-pub(crate) fn ones_of(word: u64) -> u64
-    ensures { λ r. ⌜ (r ≡ sum 64 (bitOf word)) × (r ≤ 64) ⌝ }
-{
-    u64::count_ones(word) as u64
-}
-
-// How many padding bits are set, one row after another, where the rows have some.
-fn padding_by_rows(words: &[u64], width: usize, height: usize) -> u64
-    requires { ⌜ (width ≤ 8192) × (height ≤ 8192) × (0 < width % 64) × (length (now words) ≡ bitmapWords width height) ⌝ }
-    ensures { λ r. ⌜ r ≡ paddingSet (now (words .entry)) width height ⌝ }
-{
-    let spare = width % 64;
-    let n = words_per_row(width);
-    let mut set: u64 = 0;
-    let mut y: usize = 0;
-    while y < height {
-        set += ones_of(words[y * n + width / 64] >> spare);
-        y += 1;
-    }
-    set
-}
-
-// How many padding bits are set. That there are none, as in any bitmap, shows once the rows' last words are laid over each other.
-pub(crate) fn padding(words: &[u64], width: usize, height: usize) -> u64
+// Some padding bit is set: the last words of the rows, laid over each other, have a bit past the pixels.
+pub(crate) fn padding_set(words: &[u64], width: usize, height: usize) -> bool
     requires { ⌜ (width ≤ 8192) × (height ≤ 8192) × (length (now words) ≡ bitmapWords width height) ⌝ }
-    ensures { λ r. ⌜ r ≡ paddingSet (now (words .entry)) width height ⌝ }
+    ensures { λ r. ⌜ r ≡ ltb 0 (paddingSet (now (words .entry)) width height) ⌝ }
 {
-    let spare = width % 64;
+    let spare = width % WORD_BITS;
     if spare == 0 {
-        return 0;
+        return false;
     }
     let n = words_per_row(width);
     let mut any: u64 = 0;
     let mut y: usize = 0;
     while y < height {
-        any = any | words[y * n + width / 64];
+        any = any | words[y * n + width / WORD_BITS];
         y += 1;
     }
-    if any >> spare == 0 {
-        return 0;
-    }
-    padding_by_rows(words, width, height)
+    any >> spare > 0
 }
 
 // Refused: 1, 2, 11.
@@ -94,7 +76,7 @@ pub fn get(words: &[u64], width: usize, height: usize, x: usize, y: usize) -> Pi
     if y >= height {
         return PixelAnswer::Refused(Error::Outside);
     }
-    PixelAnswer::Pixel((words[y * n + x / 64] >> (x % 64)) & 1 == 1)
+    PixelAnswer::Pixel((words[y * n + x / WORD_BITS] >> (x % WORD_BITS)) & 1 == 1)
 }
 
 // A word with bit i set to the value.
@@ -135,97 +117,9 @@ pub fn set(
     if y >= height {
         return Outcome::Refused(Error::Outside);
     }
-    let at = y * n + x / 64;
-    words[at] = with_bit(words[at], x % 64, value);
+    let at = y * n + x / WORD_BITS;
+    words[at] = with_bit(words[at], x % WORD_BITS, value);
     Outcome::Done
-}
-
-// Words added up bit by bit: a bit of `ones` counts 1, one of `twos` 2, one of `fours` 4.
-struct Twos {
-    twos: u64,
-    ones: u64,
-}
-
-pub(crate) struct Fours {
-    pub(crate) fours: u64,
-    pub(crate) twos: u64,
-    pub(crate) ones: u64,
-}
-
-// The carry-save adder of three words.
-fn carry_save(a: u64, b: u64, c: u64) -> Twos
-    ensures { λ r. ⌜ ((i : ℕ) → 2 * bitOf (r .twos) i + bitOf (r .ones) i ≡ bitOf a i + bitOf b i + bitOf c i) ⌝ }
-{
-    let odd = a ^ b;
-    Twos {
-        twos: (a & b) | (odd & c),
-        ones: odd ^ c,
-    }
-}
-
-pub(crate) fn add_seven(a: u64, b: u64, c: u64, d: u64, e: u64, f: u64, g: u64) -> Fours
-    ensures { λ r. ⌜
-        ((i : ℕ) → 4 * bitOf (r .fours) i + 2 * bitOf (r .twos) i + bitOf (r .ones) i ≡ bitOf a i + bitOf b i + bitOf c i + bitOf d i + bitOf e i + bitOf f i + bitOf g i)
-        ⌝ }
-{
-    let x = carry_save(a, b, c);
-    let y = carry_save(d, e, f);
-    let ones = carry_save(x.ones, y.ones, g);
-    let twos = carry_save(x.twos, y.twos, ones.twos);
-    Fours {
-        fours: twos.twos,
-        twos: twos.ones,
-        ones: ones.ones,
-    }
-}
-
-// Seven words, `step` apart.
-fn add_apart(words: &[u64], at: usize, step: usize) -> Fours
-    requires { ⌜ (at + 6 * step < length (now words)) × (length (now words) ≤ 1048576) ⌝ }
-    ensures { λ r. ⌜ ((i : ℕ) → 4 * bitOf (r .fours) i + 2 * bitOf (r .twos) i + bitOf (r .ones) i ≡ bitsApart 7 (now (words .entry)) at step i) ⌝ }
-{
-    add_seven(
-        words[at],
-        words[at + step],
-        words[at + 2 * step],
-        words[at + 3 * step],
-        words[at + 4 * step],
-        words[at + 5 * step],
-        words[at + 6 * step],
-    )
-}
-
-// How many bits are set in fifteen words, `step` apart. Once they are added up, four counts serve for all (Harley and Seal).
-fn ones_of_fifteen(words: &[u64], at: usize, step: usize) -> u64
-    requires { ⌜ (at + 14 * step < length (now words)) × (length (now words) ≤ 1048576) ⌝ }
-    ensures { λ r. ⌜ (r ≡ sum 15 (λ (j : ℕ). sum 64 (bitOf (getD (now (words .entry)) (j * step + at) 0)))) × (r ≤ 960) ⌝ }
-{
-    let a = add_apart(words, at, step);
-    let b = add_apart(words, at + 7 * step, step);
-    let ones = carry_save(a.ones, b.ones, words[at + 14 * step]);
-    let twos = carry_save(a.twos, b.twos, ones.twos);
-    let fours = carry_save(a.fours, b.fours, twos.twos);
-    8 * ones_of(fours.twos) + 4 * ones_of(fours.ones) + 2 * ones_of(twos.ones) + ones_of(ones.ones)
-}
-
-// How many bits are set in all words: in fifteen parts of equal length at once, which LLVM makes vectors of, then in the few left.
-pub(crate) fn ones_in(words: &[u64]) -> u64
-    requires { ⌜ length (now words) ≤ 1048576 ⌝ }
-    ensures { λ r. ⌜ r ≡ sum (length (now (words .entry))) (λ (k : ℕ). sum 64 (bitOf (getD (now (words .entry)) k 0))) ⌝ }
-{
-    let step = words.len() / 15;
-    let mut set: u64 = 0;
-    let mut at: usize = 0;
-    while at < step {
-        set += ones_of_fifteen(words, at, step);
-        at += 1;
-    }
-    let mut k = 15 * step;
-    while k < words.len() {
-        set += ones_of(words[k]);
-        k += 1;
-    }
-    set
 }
 
 // Ward's BitmapTotal. Padding is clear, so whole words can count. Refused: 1, 2, 8.
@@ -238,7 +132,7 @@ pub fn count_ones(words: &[u64], width: usize, height: usize) -> TotalAnswer
     if words.len() != height * words_per_row(width) {
         return TotalAnswer::Refused(Error::Length);
     }
-    if padding(words, width, height) > 0 {
+    if padding_set(words, width, height) {
         return TotalAnswer::Refused(Error::Padding);
     }
     TotalAnswer::Total(ones_in(words))
@@ -261,4 +155,114 @@ pub fn row<'a>(words: &'a [u64], width: usize, height: usize, y: usize) -> &'a [
     let start = y * n;
     let end = start + n;
     &words[start..end]
+}
+
+// One word of each bitmap. Both are packed in one pass: a table by value gives a sample's two bits, and 32 samples make one number
+// with both halves.
+pub(crate) struct Words {
+    pub threshold: u64,
+    pub exclusion: u64,
+}
+
+// One value in the places from `from` on and before `to`.
+fn fill_run(table: &mut [u64; 256], from: usize, to: usize, value: u64)
+    requires { ⌜ (length (now table) ≡ 256) × (from ≤ to) × (to ≤ 256) ⌝ }
+    ensures { λ _. ⌜ now (table .exit) ≡ sets (now (table .entry)) from (replicate (to - from) value) ⌝ }
+{
+    let mut v = from;
+    while v < to {
+        table[v] = value;
+        v += 1;
+    }
+}
+
+// The two bits of every sample value, run by run: far below the cut, near it and not above, near it and above, far above.
+pub(crate) fn fill_table(table: &mut [u64; 256], cut: u16, tolerance: u8)
+    requires { ⌜ length (now table) ≡ 256 ⌝ }
+    ensures { λ _. ⌜ now (table .exit) ≡ tableOf cut tolerance ⌝ }
+{
+    let middle = cut as usize;
+    let spread = tolerance as usize;
+    let near = min(saturating_sub(middle, spread), 256);
+    let above = min(middle + 1, 256);
+    let far = min(middle + 1 + spread, 256);
+    fill_run(table, 0, near, 4294967296);
+    fill_run(table, near, above, 0);
+    fill_run(table, above, far, 1);
+    fill_run(table, far, 256, 4294967297);
+}
+
+// The two bits of up to 32 samples.
+fn pack_half(
+    samples: &[u8],
+    from: usize,
+    span: usize,
+    table: &[u64; 256],
+    cut: u16,
+    tolerance: u8,
+) -> u64
+    requires { ⌜ (span ≤ 32) × (from + span ≤ length (now samples)) × (now table ≡ tableOf cut tolerance) ⌝ }
+    ensures { λ r. ⌜ r ≡ twoOf (now (samples .entry)) cut tolerance from span ⌝ }
+{
+    let mut sum: u64 = 0;
+    let mut i: usize = 0;
+    while i < span {
+        sum += table[samples[from + i] as usize] << i;
+        i += 1;
+    }
+    sum
+}
+
+// Two halves, of 32 samples and of up to 32 more, as two words.
+fn join_halves(a: u64, b: u64) -> Words
+    ensures { λ r. ⌜
+        (r .threshold ≡ a % 4294967296 + b % 4294967296 * 4294967296) × (r .exclusion ≡ a / 4294967296 + b / 4294967296 * 4294967296)
+        ⌝ }
+{
+    Words {
+        threshold: a % 4294967296 + b % 4294967296 * 4294967296,
+        exclusion: a / 4294967296 + b / 4294967296 * 4294967296,
+    }
+}
+
+// The words of 64 samples.
+pub(crate) fn pack_word(
+    samples: &[u8],
+    from: usize,
+    table: &[u64; 256],
+    cut: u16,
+    tolerance: u8,
+) -> Words
+    requires { ⌜ (from + 64 ≤ length (now samples)) × (now table ≡ tableOf cut tolerance) ⌝ }
+    ensures { λ r. ⌜
+        (r .threshold ≡ wordOf 64 (bitsFrom (now (samples .entry)) (thresholdBit cut) from))
+        × (r .exclusion ≡ wordOf 64 (bitsFrom (now (samples .entry)) (exclusionBit cut tolerance) from))
+        ⌝ }
+{
+    let a = pack_half(samples, from, 32, table, cut, tolerance);
+    let b = pack_half(samples, from + 32, 32, table, cut, tolerance);
+    join_halves(a, b)
+}
+
+// The words of fewer than 64 samples, which are the last of a row.
+pub(crate) fn pack_last(
+    samples: &[u8],
+    from: usize,
+    span: usize,
+    table: &[u64; 256],
+    cut: u16,
+    tolerance: u8,
+) -> Words
+    requires { ⌜ (span < 64) × (from + span ≤ length (now samples)) × (now table ≡ tableOf cut tolerance) ⌝ }
+    ensures { λ r. ⌜
+        (r .threshold ≡ wordOf span (bitsFrom (now (samples .entry)) (thresholdBit cut) from))
+        × (r .exclusion ≡ wordOf span (bitsFrom (now (samples .entry)) (exclusionBit cut tolerance) from))
+        ⌝ }
+{
+    if span < 32 {
+        return join_halves(pack_half(samples, from, span, table, cut, tolerance), 0);
+    }
+    let a = pack_half(samples, from, 32, table, cut, tolerance);
+    let b = pack_half(samples, from + 32, span - 32, table, cut, tolerance);
+    join_halves(a, b)
 }

@@ -58,12 +58,15 @@ pub enum Outcome {
     Refused(Error),
 }
 
-// A side is over 8,192.
+// What no side of a frame exceeds.
+pub(crate) const LONGEST_SIDE: usize = 8192;
+
+// A side is over the limit.
 pub(crate) fn side_over(width: usize, height: usize) -> bool
     ensures { λ r. ⌜ r ≡ eitherOver width height ⌝ }
 {
-    if width > 8192 {
+    if width > LONGEST_SIDE {
         return true;
     }
-    height > 8192
+    height > LONGEST_SIDE
 }

@@ -2,6 +2,8 @@
 use super::error::Error;
 use super::error::Outcome;
 use super::error::side_over;
+use super::numbers::min;
+use super::numbers::saturating_sub;
 ghost use mathlib.Core.Path.{_≡_};
 ghost use mathlib.Core.Bool.{not, _||_};
 ghost use mathlib.Core.List.{_++_};
@@ -13,8 +15,8 @@ ghost use lib.Seq.{sets};
 ghost use Rattle.definitions.specs.Geometry.{offset, doubled, source, shifted, ahead, behind, inI32, shiftsOf, commonCrop, cropStart, cropWidth};
 ghost use Rattle.definitions.specs.Build.{build};
 ghost use Rattle.definitions.specs.Refusals.{answer, after, shiftChecks, shiftedChecks, cropChecks};
-ghost use Rattle.mtb_align.specs.Answers.{outcome, shiftIn, placeIn, shiftAnswer, cropAnswer};
-ghost use Rattle.laws.specs.Axis.{axisOf};
+ghost use Rattle.mtb_align.specs.Answers.{outcome, shiftIn, sourceIn, rectIn, shiftAnswer, cropAnswer};
+ghost use Rattle.laws.specs.images.Axis.{axisOf};
 
 // How far a frame moves to sit on another.
 pub struct Shift {
@@ -28,7 +30,7 @@ pub enum ShiftAnswer {
 }
 
 // The source of a place along one axis.
-pub(crate) enum Place {
+pub(crate) enum SourcePlace {
     Inside(usize),
     Outside,
 }
@@ -126,22 +128,22 @@ pub(crate) fn below(coordinate: i32) -> usize
 }
 
 // Where a destination reads from along one axis.
-pub(crate) fn source(destination: usize, shift: i32, extent: usize) -> Place
-    ensures { λ r. ⌜ placeIn r ≡ source destination shift extent ⌝ }
+pub(crate) fn source(destination: usize, shift: i32, extent: usize) -> SourcePlace
+    ensures { λ r. ⌜ sourceIn r ≡ source destination shift extent ⌝ }
 {
     let up = above(shift);
     let down = below(shift);
     if destination < up {
-        return Place::Outside;
+        return SourcePlace::Outside;
     }
     let left = destination - up;
     if extent <= down {
-        return Place::Outside;
+        return SourcePlace::Outside;
     }
     if left < extent - down {
-        Place::Inside(left + down)
+        SourcePlace::Inside(left + down)
     } else {
-        Place::Outside
+        SourcePlace::Outside
     }
 }
 
@@ -165,30 +167,11 @@ pub(crate) fn copy_run(samples: &[u8], from: usize, out: &mut [u8], at: usize, n
     }
 }
 
-pub(crate) fn smaller(a: usize, b: usize) -> usize
-    ensures { λ r. ⌜ r ≡ min a b ⌝ }
-{
-    if a < b {
-        return a;
-    }
-    b
-}
-
-// `a` less `b`, not below 0.
-pub(crate) fn without(a: usize, b: usize) -> usize
-    ensures { λ r. ⌜ r ≡ a - b ⌝ }
-{
-    if a < b {
-        return 0;
-    }
-    a - b
-}
-
 // The first place along one axis whose source is inside, where any has one; else a place whose source is outside.
 pub(crate) fn first_covered(shift: i32, extent: usize) -> usize
     ensures { λ r. ⌜ r ≡ min (ahead shift) (extent - 1) ⌝ }
 {
-    smaller(above(shift), without(extent, 1))
+    min(above(shift), saturating_sub(extent, 1))
 }
 
 // A row of a moved image, written from `at` on: `before` zeros, the run of `n` samples from `from` on, and `past` zeros.
@@ -209,16 +192,20 @@ fn move_row(
     clear_run(out, at + before + n, past);
 }
 
-// The columns that have a source are one run: `before` columns stand left of it, and it reads from column `first` on.
+// The columns that have a source are one run: `before` columns stand left of it, it reads from column `first` on, and `first` columns
+// stand right of it. Where the first that could have a source has none, no other has.
 fn move_rows(samples: &[u8], width: usize, height: usize, shift: Shift, moved: &mut [u8])
     requires { ⌜ (width ≤ 8192) × (height ≤ 8192) × (length (now samples) ≡ width * height) × (length (now moved) ≡ width * height) ⌝ }
     ensures { λ _. ⌜ now (moved .exit) ≡ shifted width height (now (samples .entry)) (shiftIn shift) ⌝ }
 {
-    let before = smaller(above(shift.x), width);
-    let first = smaller(below(shift.x), width);
+    let before = first_covered(shift.x, width);
+    let SourcePlace::Inside(first) = source(before, shift.x, width) else {
+        clear_run(moved, 0, width * height);
+        return;
+    };
     let n = width - before - first;
     for y in 0..height {
-        let Place::Inside(row) = source(y, shift.y, height) else {
+        let SourcePlace::Inside(row) = source(y, shift.y, height) else {
             clear_run(moved, y * width, width);
             continue;
         };
@@ -243,7 +230,12 @@ pub fn shifted(
     moved: &mut [u8],
 ) -> Outcome
     ensures answer { λ r. ⌜ outcome r ≡ answer (shiftedChecks width height (length (now (samples .entry))) (length (now (moved .entry)))) tt ⌝ }
-    ensures moved { λ _. ⌜ now (moved .exit) ≡ after (shiftedChecks width height (length (now (samples .entry))) (length (now (moved .entry)))) (shifted width height (now (samples .entry)) (shiftIn shift)) (now (moved .entry)) ⌝ }
+    ensures moved { λ _. ⌜
+        now (moved .exit)
+        ≡ after (shiftedChecks width height (length (now (samples .entry))) (length (now (moved .entry))))
+        (shifted width height (now (samples .entry)) (shiftIn shift))
+        (now (moved .entry))
+        ⌝ }
 {
     if side_over(width, height) {
         return Outcome::Refused(Error::Side);
@@ -298,9 +290,23 @@ fn span(shifts: &[i32], axis: usize, extent: usize) -> Covered
     }
     let start = above(most);
     let lost = below(least);
-    let left = without(extent, lost);
-    let width = without(left, start);
+    let left = saturating_sub(extent, lost);
+    let width = saturating_sub(left, start);
     Covered { start, width }
+}
+
+// The crop of a shift list. The last coordinate of an odd one is left out.
+pub(crate) fn crop_of(shifts: &[i32], width: usize, height: usize) -> Rect
+    ensures { λ r. ⌜ rectIn r ≡ commonCrop (shiftsOf (now (shifts .entry))) width height ⌝ }
+{
+    let across = span(shifts, 0, width);
+    let down = span(shifts, 1, height);
+    Rect {
+        x: across.start,
+        y: down.start,
+        width: across.width,
+        height: down.width,
+    }
 }
 
 // The region that every frame still covers once moved; the list has x then y for each frame. Refused: 1, then 2 for an odd list.
@@ -313,12 +319,5 @@ pub fn common_crop(shifts: &[i32], width: usize, height: usize) -> CropAnswer
     if shifts.len() % 2 == 1 {
         return CropAnswer::Refused(Error::Length);
     }
-    let across = span(shifts, 0, width);
-    let down = span(shifts, 1, height);
-    CropAnswer::Crop(Rect {
-        x: across.start,
-        y: down.start,
-        width: across.width,
-        height: down.width,
-    })
+    CropAnswer::Crop(crop_of(shifts, width, height))
 }

@@ -29,7 +29,12 @@ fn flatten(rgb: &[u8], width: usize, height: usize, gray: &mut [u8])
 // Three bytes a pixel, row by row, with Ward's weights. Refused: 1, then 2.
 pub fn from_rgb(rgb: &[u8], width: usize, height: usize, gray: &mut [u8]) -> Outcome
     ensures answer { λ r. ⌜ outcome r ≡ answer (fromRgbChecks width height (length (now (rgb .entry))) (length (now (gray .entry)))) tt ⌝ }
-    ensures gray { λ _. ⌜ now (gray .exit) ≡ after (fromRgbChecks width height (length (now (rgb .entry))) (length (now (gray .entry)))) (fromRgb width height (now (rgb .entry))) (now (gray .entry)) ⌝ }
+    ensures gray { λ _. ⌜
+        now (gray .exit)
+        ≡ after (fromRgbChecks width height (length (now (rgb .entry))) (length (now (gray .entry))))
+        (fromRgb width height (now (rgb .entry)))
+        (now (gray .entry))
+        ⌝ }
 {
     if side_over(width, height) {
         return Outcome::Refused(Error::Side);

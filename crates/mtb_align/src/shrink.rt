@@ -17,27 +17,27 @@ pub enum Shrink {
     Subsample,
 }
 
-// Two neighbours in one number, the left one below. LLVM makes one load of it before it sees the callers, and a row of such loads is
-// read by vectors; single samples at every second place are not.
-fn pair(samples: &[u8], at: usize) -> u16
+// Two samples side by side in one number, the left one below. LLVM makes one load of it before it sees the callers, and a row of
+// such loads is read by vectors; single samples at every second place are not.
+fn side_by_side(samples: &[u8], at: usize) -> u16
     requires { ⌜ at + 2 ≤ length (now samples) ⌝ }
     ensures { λ r. ⌜ (r % 256 ≡ getD (now (samples .entry)) at 0) × (r / 256 ≡ getD (now (samples .entry)) (at + 1) 0) ⌝ }
 {
     samples[at] as u16 + 256 * samples[at + 1] as u16
 }
 
-// The mean of the block whose rows are the two pairs.
+// The mean of a block by its two rows, each two samples side by side.
 fn mean_of(top: u16, bottom: u16) -> u8
     ensures { λ r. ⌜ r ≡ mean (top % 256) (top / 256) (bottom % 256) (bottom / 256) ⌝ }
 {
     ((top % 256 + top / 256 + bottom % 256 + bottom / 256 + 2) / 4) as u8
 }
 
-// The left one of a pair.
-fn left_of(pair: u16) -> u8
-    ensures { λ r. ⌜ r ≡ pair % 256 ⌝ }
+// The left one of two samples side by side.
+fn left_of(two: u16) -> u8
+    ensures { λ r. ⌜ r ≡ two % 256 ⌝ }
 {
-    (pair % 256) as u8
+    (two % 256) as u8
 }
 
 // Row y of the halved frame, written at `at`.
@@ -51,7 +51,10 @@ fn average_row(samples: &[u8], width: usize, y: usize, out: &mut [u8], at: usize
     let mut x: usize = 0;
     while x < n {
         let left = 2 * x;
-        out[at + x] = mean_of(pair(samples, top + left), pair(samples, bottom + left));
+        out[at + x] = mean_of(
+            side_by_side(samples, top + left),
+            side_by_side(samples, bottom + left),
+        );
         x += 1;
     }
 }
@@ -64,7 +67,7 @@ fn subsample_row(samples: &[u8], width: usize, y: usize, out: &mut [u8], at: usi
     let top = 2 * y * width;
     let mut x: usize = 0;
     while x < n {
-        out[at + x] = left_of(pair(samples, top + 2 * x));
+        out[at + x] = left_of(side_by_side(samples, top + 2 * x));
         x += 1;
     }
 }
@@ -126,7 +129,10 @@ fn average_row_within(scratch: &mut [u8], from: usize, width: usize, y: usize, a
     let mut x: usize = 0;
     while x < n {
         let left = 2 * x;
-        let mean = mean_of(pair(scratch, top + left), pair(scratch, bottom + left));
+        let mean = mean_of(
+            side_by_side(scratch, top + left),
+            side_by_side(scratch, bottom + left),
+        );
         scratch[at + x] = mean;
         x += 1;
     }
@@ -140,7 +146,7 @@ fn subsample_row_within(scratch: &mut [u8], from: usize, width: usize, y: usize,
     let top = from + 2 * y * width;
     let mut x: usize = 0;
     while x < n {
-        let sample = left_of(pair(scratch, top + 2 * x));
+        let sample = left_of(side_by_side(scratch, top + 2 * x));
         scratch[at + x] = sample;
         x += 1;
     }
@@ -186,7 +192,12 @@ pub fn shrink2(
     shrunk: &mut [u8],
 ) -> Outcome
     ensures answer { λ r. ⌜ outcome r ≡ answer (shrinkChecks width height (length (now (samples .entry))) (length (now (shrunk .entry)))) tt ⌝ }
-    ensures shrunk { λ _. ⌜ now (shrunk .exit) ≡ after (shrinkChecks width height (length (now (samples .entry))) (length (now (shrunk .entry)))) (shrink2 (modeOf shrink) width height (now (samples .entry))) (now (shrunk .entry)) ⌝ }
+    ensures shrunk { λ _. ⌜
+        now (shrunk .exit)
+        ≡ after (shrinkChecks width height (length (now (samples .entry))) (length (now (shrunk .entry))))
+        (shrink2 (modeOf shrink) width height (now (samples .entry)))
+        (now (shrunk .entry))
+        ⌝ }
 {
     if side_over(width, height) {
         return Outcome::Refused(Error::Side);

@@ -1,125 +1,18 @@
-// Loops over rows. Both bitmaps of a frame are packed in one pass: a table by value gives a sample's two bits, and 32 samples make
-// one number with both halves.
-use super::geometry::smaller;
-use super::geometry::without;
+// Loops over rows: both bitmaps of a frame are packed in one pass.
+use super::bitmap::WORD_BITS;
+use super::bitmap::fill_table;
+use super::bitmap::pack_last;
+use super::bitmap::pack_word;
+use super::bitmap::words_per_row;
 ghost use mathlib.Core.Path.{_≡_};
-ghost use Prim.Native.Nat.{_+_, _-_, _*_, _/_, _%_, _≤_, _<_};
-ghost use lib.ListN.{length, replicate};
+ghost use Prim.Native.Nat.{_+_, _*_, _≤_};
+ghost use lib.ListN.{length};
 ghost use lib.Seq.{sets};
 ghost use Rattle.definitions.specs.Threshold.{thresholdBit, exclusionBit};
-ghost use Rattle.definitions.specs.Bitmap.{wordsPerRow, bitmapWords, wordOf, packed};
+ghost use Rattle.definitions.specs.Bitmap.{wordsPerRow, bitmapWords, packed};
 ghost use Rattle.definitions.specs.Difference.{bitmapsOf};
 ghost use Rattle.mtb_align.specs.Search.{packedPair};
-ghost use Rattle.mtb_align.specs.Packing.{tableOf, bitsFrom, twoOf, rowWords};
-
-// One word of each bitmap.
-pub(crate) struct Words {
-    pub threshold: u64,
-    pub exclusion: u64,
-}
-
-// One value in the places from `from` on and before `to`.
-fn fill_run(table: &mut [u64; 256], from: usize, to: usize, value: u64)
-    requires { ⌜ (length (now table) ≡ 256) × (from ≤ to) × (to ≤ 256) ⌝ }
-    ensures { λ _. ⌜ now (table .exit) ≡ sets (now (table .entry)) from (replicate (to - from) value) ⌝ }
-{
-    let mut v = from;
-    while v < to {
-        table[v] = value;
-        v += 1;
-    }
-}
-
-// The two bits of every sample value, run by run: far below the cut, near it and not above, near it and above, far above.
-pub(crate) fn fill_table(table: &mut [u64; 256], cut: u16, tolerance: u8)
-    requires { ⌜ length (now table) ≡ 256 ⌝ }
-    ensures { λ _. ⌜ now (table .exit) ≡ tableOf cut tolerance ⌝ }
-{
-    let middle = cut as usize;
-    let spread = tolerance as usize;
-    let near = smaller(without(middle, spread), 256);
-    let above = smaller(middle + 1, 256);
-    let far = smaller(middle + 1 + spread, 256);
-    fill_run(table, 0, near, 4294967296);
-    fill_run(table, near, above, 0);
-    fill_run(table, above, far, 1);
-    fill_run(table, far, 256, 4294967297);
-}
-
-// The two bits of up to 32 samples.
-fn half(
-    samples: &[u8],
-    from: usize,
-    span: usize,
-    table: &[u64; 256],
-    cut: u16,
-    tolerance: u8,
-) -> u64
-    requires { ⌜ (span ≤ 32) × (from + span ≤ length (now samples)) × (now table ≡ tableOf cut tolerance) ⌝ }
-    ensures { λ r. ⌜ r ≡ twoOf (now (samples .entry)) cut tolerance from span ⌝ }
-{
-    let mut sum: u64 = 0;
-    let mut i: usize = 0;
-    while i < span {
-        sum += table[samples[from + i] as usize] << i;
-        i += 1;
-    }
-    sum
-}
-
-// Two halves, of 32 samples and of up to 32 more, as two words.
-fn join(a: u64, b: u64) -> Words
-    ensures { λ r. ⌜
-        (r .threshold ≡ a % 4294967296 + b % 4294967296 * 4294967296) × (r .exclusion ≡ a / 4294967296 + b / 4294967296 * 4294967296)
-        ⌝ }
-{
-    Words {
-        threshold: a % 4294967296 + b % 4294967296 * 4294967296,
-        exclusion: a / 4294967296 + b / 4294967296 * 4294967296,
-    }
-}
-
-// A full word of each bitmap.
-pub(crate) fn full(
-    samples: &[u8],
-    from: usize,
-    table: &[u64; 256],
-    cut: u16,
-    tolerance: u8,
-) -> Words
-    requires { ⌜ (from + 64 ≤ length (now samples)) × (now table ≡ tableOf cut tolerance) ⌝ }
-    ensures { λ r. ⌜
-        (r .threshold ≡ wordOf 64 (bitsFrom (now (samples .entry)) (thresholdBit cut) from))
-        × (r .exclusion ≡ wordOf 64 (bitsFrom (now (samples .entry)) (exclusionBit cut tolerance) from))
-        ⌝ }
-{
-    let a = half(samples, from, 32, table, cut, tolerance);
-    let b = half(samples, from + 32, 32, table, cut, tolerance);
-    join(a, b)
-}
-
-// The words of fewer than 64 samples.
-pub(crate) fn part(
-    samples: &[u8],
-    from: usize,
-    span: usize,
-    table: &[u64; 256],
-    cut: u16,
-    tolerance: u8,
-) -> Words
-    requires { ⌜ (span < 64) × (from + span ≤ length (now samples)) × (now table ≡ tableOf cut tolerance) ⌝ }
-    ensures { λ r. ⌜
-        (r .threshold ≡ wordOf span (bitsFrom (now (samples .entry)) (thresholdBit cut) from))
-        × (r .exclusion ≡ wordOf span (bitsFrom (now (samples .entry)) (exclusionBit cut tolerance) from))
-        ⌝ }
-{
-    if span < 32 {
-        return join(half(samples, from, span, table, cut, tolerance), 0);
-    }
-    let a = half(samples, from, 32, table, cut, tolerance);
-    let b = half(samples, from + 32, span - 32, table, cut, tolerance);
-    join(a, b)
-}
+ghost use Rattle.mtb_align.specs.Packing.{tableOf, bitsFrom, rowWords};
 
 // A row's words of both bitmaps, from the samples at `from` on, stored at `at`.
 fn pack_row(
@@ -145,11 +38,11 @@ fn pack_row(
         × (now (exclusion .exit) ≡ sets (now (exclusion .entry)) at (rowWords width (bitsFrom (now (samples .entry)) (exclusionBit cut tolerance) from)))
         ⌝ }
 {
-    let n = width / 64;
-    let span = width % 64;
+    let n = width / WORD_BITS;
+    let span = width % WORD_BITS;
     let mut k: usize = 0;
     while k < n {
-        let b = full(samples, from + k * 64, table, cut, tolerance);
+        let b = pack_word(samples, from + k * WORD_BITS, table, cut, tolerance);
         threshold[at + k] = b.threshold;
         exclusion[at + k] = b.exclusion;
         k += 1;
@@ -157,7 +50,7 @@ fn pack_row(
     if span == 0 {
         return;
     }
-    let b = part(samples, from + n * 64, span, table, cut, tolerance);
+    let b = pack_last(samples, from + n * WORD_BITS, span, table, cut, tolerance);
     threshold[at + n] = b.threshold;
     exclusion[at + n] = b.exclusion;
 }
@@ -186,7 +79,7 @@ pub(crate) fn pack(
 {
     let mut table = [0u64; 256];
     fill_table(&mut table, cut, tolerance);
-    let n = (width + 63) / 64;
+    let n = words_per_row(width);
     let mut y: usize = 0;
     while y < height {
         pack_row(
@@ -230,11 +123,11 @@ fn pack_row_at(
         behind (rowWords width (bitsFrom (now (samples .entry)) (exclusionBit cut tolerance) from))
         ⌝ }
 {
-    let n = width / 64;
-    let span = width % 64;
+    let n = width / WORD_BITS;
+    let span = width % WORD_BITS;
     let mut k: usize = 0;
     while k < n {
-        let b = full(samples, from + k * 64, table, cut, tolerance);
+        let b = pack_word(samples, from + k * WORD_BITS, table, cut, tolerance);
         words[at + k] = b.threshold;
         words[behind + k] = b.exclusion;
         k += 1;
@@ -242,7 +135,7 @@ fn pack_row_at(
     if span == 0 {
         return;
     }
-    let b = part(samples, from + n * 64, span, table, cut, tolerance);
+    let b = pack_last(samples, from + n * WORD_BITS, span, table, cut, tolerance);
     words[at + n] = b.threshold;
     words[behind + n] = b.exclusion;
 }
@@ -262,7 +155,7 @@ pub(crate) fn pack_at(
 {
     let mut table = [0u64; 256];
     fill_table(&mut table, cut, tolerance);
-    let n = (width + 63) / 64;
+    let n = words_per_row(width);
     let behind = at + height * n;
     let mut y: usize = 0;
     while y < height {

@@ -3,9 +3,10 @@ use super::bitmap::words_per_row;
 use super::error::Error;
 use super::error::Outcome;
 use super::error::side_over;
+use super::numbers::min;
 use super::strips::pack;
 ghost use mathlib.Core.Path.{_≡_};
-ghost use Prim.Native.Nat.{ℕ, _+_, _*_, _/_, _≤_, _<_, min};
+ghost use Prim.Native.Nat.{ℕ, _+_, _*_, _/_, _≤_, _<_};
 ghost use lib.ListN.{length, getD, set};
 ghost use Rattle.definitions.specs.Sum.{sum};
 ghost use Rattle.definitions.specs.Build.{build};
@@ -16,13 +17,16 @@ ghost use Rattle.definitions.specs.Refusals.{answer, after, cutChecks, packingC
 ghost use Rattle.mtb_align.specs.Answers.{outcome, cutAnswer};
 ghost use Rattle.mtb_align.specs.Tally.{laneTotal, Tally};
 
+// Distinct sample values.
+const LEVELS: usize = 256;
+
 pub enum CutAnswer {
     Cut(u16),
     Refused(Error),
 }
 
 // One sample, into the lane that starts at `lane`.
-fn count_one(lanes: &mut [u32; 1024], lane: usize, sample: u8)
+fn count_one(lanes: &mut [u32; 4 * LEVELS], lane: usize, sample: u8)
     requires { ⌜ (length (now lanes) ≡ 1024) × (lane ≤ 768) × (getD (now lanes) (lane + sample) 0 < 67108864) ⌝ }
     ensures { λ _. ⌜ now (lanes .exit) ≡ set (now (lanes .entry)) (lane + sample) (getD (now (lanes .entry)) (lane + sample) 0 + 1) ⌝ }
 {
@@ -31,18 +35,18 @@ fn count_one(lanes: &mut [u32; 1024], lane: usize, sample: u8)
 
 // Four samples, each into a lane of its own, so that no count waits for the one before it. How a value's count is spread over
 // the lanes is left open on purpose, here and in `tally_rows`: only the total of the four is read.
-fn count_four(lanes: &mut [u32; 1024], samples: &[u8], at: usize)
+fn count_four(lanes: &mut [u32; 4 * LEVELS], samples: &[u8], at: usize)
     requires { ⌜ Tally (now lanes) (now samples) at × (length (now samples) ≤ 67108864) × (at + 4 ≤ length (now samples)) ⌝ }
     ensures { λ _. ⌜ Tally (now (lanes .exit)) (now (samples .entry)) (at + 4) ⌝ }
 {
     count_one(lanes, 0, samples[at]);
-    count_one(lanes, 256, samples[at + 1]);
-    count_one(lanes, 512, samples[at + 2]);
-    count_one(lanes, 768, samples[at + 3]);
+    count_one(lanes, LEVELS, samples[at + 1]);
+    count_one(lanes, 2 * LEVELS, samples[at + 2]);
+    count_one(lanes, 3 * LEVELS, samples[at + 3]);
 }
 
 // The lanes count the samples before `from`, and then n more.
-fn tally_rows(lanes: &mut [u32; 1024], samples: &[u8], from: usize, n: usize)
+fn tally_rows(lanes: &mut [u32; 4 * LEVELS], samples: &[u8], from: usize, n: usize)
     requires { ⌜ Tally (now lanes) (now samples) from × (length (now samples) ≤ 67108864) × (from + n ≤ length (now samples)) ⌝ }
     ensures { λ _. ⌜ Tally (now (lanes .exit)) (now (samples .entry)) (from + n) ⌝ }
 {
@@ -59,47 +63,38 @@ fn tally_rows(lanes: &mut [u32; 1024], samples: &[u8], from: usize, n: usize)
 }
 
 // What the four lanes hold together at the value v.
-fn lane_total(lanes: &[u32; 1024], v: usize) -> u64
+fn lane_total(lanes: &[u32; 4 * LEVELS], v: usize) -> u64
     requires { ⌜ (v < 256) × (laneTotal (now lanes) v ≤ 67108864) ⌝ }
     ensures { λ r. ⌜ r ≡ laneTotal (now (lanes .entry)) v ⌝ }
 {
-    (lanes[v] + lanes[256 + v] + lanes[512 + v] + lanes[768 + v]) as u64
+    (lanes[v] + lanes[LEVELS + v] + lanes[2 * LEVELS + v] + lanes[3 * LEVELS + v]) as u64
 }
 
 // The four lanes as one.
-fn fold_lanes(lanes: &[u32; 1024]) -> [u64; 256]
+fn fold_lanes(lanes: &[u32; 4 * LEVELS]) -> [u64; LEVELS]
     requires { ⌜ ((v : ℕ) → v < 256 → laneTotal (now lanes) v ≤ 67108864) ⌝ }
     ensures { λ r. ⌜ r ≡ build 256 (laneTotal (now (lanes .entry))) ⌝ }
 {
-    let mut bins = [0u64; 256];
+    let mut bins = [0u64; LEVELS];
     let mut v: usize = 0;
-    while v < 256 {
+    while v < LEVELS {
         bins[v] = lane_total(lanes, v);
         v += 1;
     }
     bins
 }
 
-// Rows that are tallied together: short rows one by one would cost more than their samples.
-fn up_to_eight(rows: usize) -> usize
-    ensures { λ r. ⌜ r ≡ min rows 8 ⌝ }
-{
-    if rows < 8 {
-        return rows;
-    }
-    8
-}
-
 // How many samples have each of the 256 values.
-pub(crate) fn histogram(samples: &[u8], width: usize, height: usize) -> [u64; 256]
+pub(crate) fn histogram(samples: &[u8], width: usize, height: usize) -> [u64; LEVELS]
     requires { ⌜ (width ≤ 8192) × (height ≤ 8192) × (length (now samples) ≡ width * height) ⌝ }
     ensures { λ r. ⌜ r ≡ bins (now (samples .entry)) ⌝ }
 {
-    let mut lanes = [0u32; 1024];
+    let mut lanes = [0u32; 4 * LEVELS];
     let mut from: usize = 0;
     let mut y: usize = 0;
     while y < height {
-        let rows = up_to_eight(height - y);
+        // Rows that are tallied together: short rows one by one would cost more than their samples.
+        let rows = min(height - y, 8);
         tally_rows(&mut lanes, samples, from, rows * width);
         from += rows * width;
         y += rows;
@@ -108,13 +103,13 @@ pub(crate) fn histogram(samples: &[u8], width: usize, height: usize) -> [u64; 25
 }
 
 // The number of bins that are added before their sum reaches the goal.
-pub(crate) fn bins_added(bins: [u64; 256], goal: u64) -> u16
+pub(crate) fn bins_added(bins: [u64; LEVELS], goal: u64) -> u16
     requires { ⌜ sum 256 (λ (i : ℕ). getD bins i 0) ≤ 67108864 ⌝ }
     ensures { λ r. ⌜ r ≡ binsAdded bins goal 0 ⌝ }
 {
     let mut added: u64 = 0;
     let mut level: usize = 0;
-    while level < 256 {
+    while level < LEVELS {
         if added >= goal {
             return level as u16;
         }
@@ -161,8 +156,18 @@ pub fn compute_bitmaps(
     exclusion: &mut [u64],
 ) -> Outcome
     ensures answer { λ r. ⌜ outcome r ≡ answer (packingChecks width height (length (now (samples .entry))) (length (now (threshold .entry))) (length (now (exclusion .entry))) percentile) tt ⌝ }
-    ensures threshold { λ _. ⌜ now (threshold .exit) ≡ after (packingChecks width height (length (now (samples .entry))) (length (now (threshold .entry))) (length (now (exclusion .entry))) percentile) (packed width height (bitmapsOf width (now (samples .entry)) (cut (now (samples .entry)) percentile) tolerance .threshold)) (now (threshold .entry)) ⌝ }
-    ensures exclusion { λ _. ⌜ now (exclusion .exit) ≡ after (packingChecks width height (length (now (samples .entry))) (length (now (threshold .entry))) (length (now (exclusion .entry))) percentile) (packed width height (bitmapsOf width (now (samples .entry)) (cut (now (samples .entry)) percentile) tolerance .exclusion)) (now (exclusion .entry)) ⌝ }
+    ensures threshold { λ _. ⌜
+        now (threshold .exit)
+        ≡ after (packingChecks width height (length (now (samples .entry))) (length (now (threshold .entry))) (length (now (exclusion .entry))) percentile)
+        (packed width height (bitmapsOf width (now (samples .entry)) (cut (now (samples .entry)) percentile) tolerance .threshold))
+        (now (threshold .entry))
+        ⌝ }
+    ensures exclusion { λ _. ⌜
+        now (exclusion .exit)
+        ≡ after (packingChecks width height (length (now (samples .entry))) (length (now (threshold .entry))) (length (now (exclusion .entry))) percentile)
+        (packed width height (bitmapsOf width (now (samples .entry)) (cut (now (samples .entry)) percentile) tolerance .exclusion))
+        (now (exclusion .entry))
+        ⌝ }
 {
     if side_over(width, height) {
         return Outcome::Refused(Error::Side);

@@ -1,11 +1,11 @@
 -- A call's answer with a value as a status, a slot and a list of values: the value goes into the slot of an accepted call, and a
--- refusal leaves the slot as it was and puts its values into the list. Assumes nothing.
+-- refusal leaves the slot as it was and puts its values into the list.
 use mathlib.Core.Path.{_≡_, sym, ap, _∙_}
 use mathlib.Core.List.{List}
 use Prim.Native.Nat.{ℕ}
 use lib.Seq.{sets}
 use Rattle.definitions.specs.Refusals.{Check, Answer, accepted, refused, answer, after}
-use Rattle.laws.specs.Checks.{accepted-too, refused-too, after-accepted, after-refused}
+use Rattle.laws.specs.checks.Checks.{accepted-too, refused-too, after-accepted, after-refused}
 use Rattle.mtb_c.specs.Status.{statusOf, valuesAfter}
 
 module _ {A : Type 0} (l : List Check) (v : A) where

@@ -40,7 +40,10 @@ pub(crate) fn mode(subsampled: bool) -> Shrink
 #[no_mangle]
 pub extern "C" fn mtb_from_rgb(rgb: &[u8], width: usize, height: usize, gray: &mut [u8]) -> u32
     ensures status { λ r. ⌜ r ≡ statusOf (answer (fromRgbChecks width height (length (now (rgb .entry))) (length (now (gray .entry)))) (tt {0})) ⌝ }
-    ensures gray { λ _. ⌜ now (gray .exit) ≡ after (fromRgbChecks width height (length (now (rgb .entry))) (length (now (gray .entry)))) (fromRgb width height (now (rgb .entry))) (now (gray .entry)) ⌝ }
+    ensures gray { λ _. ⌜
+        now (gray .exit) ≡ after (fromRgbChecks width height (length (now (rgb .entry))) (length (now (gray .entry))))
+        (fromRgb width height (now (rgb .entry))) (now (gray .entry))
+        ⌝ }
 {
     status(mtb_align::gray::from_rgb(rgb, width, height, gray))
 }
@@ -54,7 +57,10 @@ pub extern "C" fn mtb_shrink2(
     shrunk: &mut [u8],
 ) -> u32
     ensures status { λ r. ⌜ r ≡ statusOf (answer (shrinkChecks width height (length (now (samples .entry))) (length (now (shrunk .entry)))) (tt {0})) ⌝ }
-    ensures shrunk { λ _. ⌜ now (shrunk .exit) ≡ after (shrinkChecks width height (length (now (samples .entry))) (length (now (shrunk .entry)))) (shrink2 (cond subsampled subsample average) width height (now (samples .entry))) (now (shrunk .entry)) ⌝ }
+    ensures shrunk { λ _. ⌜
+        now (shrunk .exit) ≡ after (shrinkChecks width height (length (now (samples .entry))) (length (now (shrunk .entry))))
+        (shrink2 (cond subsampled subsample average) width height (now (samples .entry))) (now (shrunk .entry))
+        ⌝ }
 {
     status(mtb_align::shrink::shrink2(samples, width, height, mode(subsampled), shrunk))
 }
@@ -89,9 +95,22 @@ pub extern "C" fn mtb_compute_bitmaps(
     threshold: &mut [u64],
     exclusion: &mut [u64],
 ) -> u32
-    ensures status { λ r. ⌜ r ≡ statusOf (answer (packingChecks width height (length (now (samples .entry))) (length (now (threshold .entry))) (length (now (exclusion .entry))) percentile) (tt {0})) ⌝ }
-    ensures threshold { λ _. ⌜ now (threshold .exit) ≡ after (packingChecks width height (length (now (samples .entry))) (length (now (threshold .entry))) (length (now (exclusion .entry))) percentile) (packed width height (bitmapsOf width (now (samples .entry)) (cutOf (now (samples .entry)) percentile) tolerance .threshold)) (now (threshold .entry)) ⌝ }
-    ensures exclusion { λ _. ⌜ now (exclusion .exit) ≡ after (packingChecks width height (length (now (samples .entry))) (length (now (threshold .entry))) (length (now (exclusion .entry))) percentile) (packed width height (bitmapsOf width (now (samples .entry)) (cutOf (now (samples .entry)) percentile) tolerance .exclusion)) (now (exclusion .entry)) ⌝ }
+    ensures status { λ r. ⌜
+        r ≡ statusOf (answer
+        (packingChecks width height (length (now (samples .entry))) (length (now (threshold .entry))) (length (now (exclusion .entry))) percentile) (tt {0}))
+        ⌝ }
+    ensures threshold { λ _. ⌜
+        now (threshold .exit) ≡ after
+        (packingChecks width height (length (now (samples .entry))) (length (now (threshold .entry))) (length (now (exclusion .entry))) percentile)
+        (packed width height (bitmapsOf width (now (samples .entry)) (cutOf (now (samples .entry)) percentile) tolerance .threshold))
+        (now (threshold .entry))
+        ⌝ }
+    ensures exclusion { λ _. ⌜
+        now (exclusion .exit) ≡ after
+        (packingChecks width height (length (now (samples .entry))) (length (now (threshold .entry))) (length (now (exclusion .entry))) percentile)
+        (packed width height (bitmapsOf width (now (samples .entry)) (cutOf (now (samples .entry)) percentile) tolerance .exclusion))
+        (now (exclusion .entry))
+        ⌝ }
 {
     status(mtb_align::threshold::compute_bitmaps(
         samples,

@@ -1,7 +1,7 @@
 // The levels of a frame, and the scratch of a step.
 use super::frames::mode;
 use super::frames::status;
-use mtb_align::align::NeedAnswer;
+use mtb_align::checks::NeedAnswer;
 ghost use mathlib.Core.Path.{_≡_};
 ghost use mathlib.Core.Bool.{cond};
 ghost use mathlib.Core.List.{List, [], _++_};
@@ -30,7 +30,7 @@ pub extern "C" fn mtb_pyramid(
         × (now (scratch .exit) ≡ after checks (halved ++ drop (halvedSamples width height n) (now (scratch .entry))) (now (scratch .entry))))
         ⌝ }
 {
-    status(mtb_align::align::pyramid(samples, width, height, bits, mode(subsampled), scratch))
+    status(mtb_align::levels::pyramid(samples, width, height, bits, mode(subsampled), scratch))
 }
 
 // Level k as a part of the frame or of the scratch: how many samples it has, and into the slots which of the two and where it starts.
@@ -57,7 +57,7 @@ pub extern "C" fn mtb_level(
         × (after checks (levelPart width height n (now (frame .entry)) (now (scratch .entry)) k) [] ≡ take r (drop (now (start .exit)) list)))
         ⌝ }
 {
-    let place = mtb_align::align::level_place(frame.len(), width, height, bits, scratch.len(), k);
+    let place = mtb_align::levels::level_place(frame.len(), width, height, bits, scratch.len(), k);
     *in_scratch = place.in_scratch;
     *start = place.start;
     place.samples
@@ -76,7 +76,7 @@ pub extern "C" fn mtb_scratch(
     ensures bytes { λ _. ⌜ now (bytes .exit) ≡ after (needChecks width height) (stepBytes width height bits) (now (bytes .entry)) ⌝ }
     ensures words { λ _. ⌜ now (words .exit) ≡ after (needChecks width height) (stepWords width height) (now (words .entry)) ⌝ }
 {
-    match mtb_align::align::scratch_needed(width, height, bits) {
+    match mtb_align::checks::scratch_needed(width, height, bits) {
         NeedAnswer::Needed(n) => {
             *bytes = n.bytes;
             *words = n.words;

@@ -65,7 +65,10 @@ pub extern "C" fn mtb_shifted(
     moved: &mut [u8],
 ) -> u32
     ensures status { λ r. ⌜ r ≡ statusOf (answer (shiftedChecks width height (length (now (samples .entry))) (length (now (moved .entry)))) (tt {0})) ⌝ }
-    ensures moved { λ _. ⌜ now (moved .exit) ≡ after (shiftedChecks width height (length (now (samples .entry))) (length (now (moved .entry)))) (shifted width height (now (samples .entry)) (shift x y)) (now (moved .entry)) ⌝ }
+    ensures moved { λ _. ⌜
+        now (moved .exit) ≡ after (shiftedChecks width height (length (now (samples .entry))) (length (now (moved .entry))))
+        (shifted width height (now (samples .entry)) (shift x y)) (now (moved .entry))
+        ⌝ }
 {
     status(mtb_align::geometry::shifted(samples, width, height, Shift { x, y }, moved))
 }

@@ -6,11 +6,9 @@ use mtb_align::report::ReportAnswer;
 use mtb_align::report::Terms;
 ghost use mathlib.Core.Path.{_≡_};
 ghost use lib.ListN.{length};
-ghost use Rattle.definitions.specs.Geometry.{listed};
-ghost use Rattle.definitions.specs.Align as stacks;
-ghost use Rattle.definitions.specs.Refusals.{answer, after, Scratch};
-ghost use Rattle.definitions.specs.Report as reports;
-ghost use Rattle.mtb_align.specs.Survey.{Asked, stackAsked, firstChecks, allChecks, reportedOf, recordSpace, bytesNeeded, wordsNeeded};
+ghost use Rattle.definitions.specs.Refusals.{answer, after};
+ghost use Rattle.mtb_align.specs.Survey.{Reported};
+ghost use Rattle.mtb_align.specs.Asked.{ReportAsked, stackAsked, allChecks, reportedOf, ReportPromise};
 ghost use Rattle.mtb_c.specs.Status.{statusOf, valuesAfter, optionsOf, termsOf};
 
 // The crop's left, top, width and height, and the number of records, from an accepted report alone: how many records 10 asks for is
@@ -41,31 +39,39 @@ pub extern "C" fn mtb_report(
     values: &mut [usize; 5],
 ) -> u32
     ensures { λ r. ⌜
-        (let a : Asked = record {
-          widths = now (widths .entry);
-          heights = now (heights .entry);
-          samples = now (samples .entry);
-          reference = reference;
-          percentile = percentile;
-          options = optionsOf bits tolerance subsampled;
+        (let a : ReportAsked = record {
+          stack = record {
+            widths = now (widths .entry);
+            heights = now (heights .entry);
+            samples = now (samples .entry);
+            reference = reference;
+            percentile = percentile;
+            options = optionsOf bits tolerance subsampled;
+            shifts = length (now (shifts .entry));
+            bytes = length (now (bytes .entry));
+            words = length (now (words .entry));
+          };
           terms = termsOf reach floor margin;
-          shifts = length (now (shifts .entry));
           verdicts = length (now (verdicts .entry));
           records = length (now (records .entry));
-          bytes = length (now (bytes .entry));
-          words = length (now (words .entry));
         } in
-        (r ≡ statusOf (answer (allChecks a) (tt {0})))
-        × (now (shifts .exit) ≡ after (allChecks a) (listed (stacks.shifts (stackAsked a))) (now (shifts .entry)))
-        × (now (verdicts .exit) ≡ after (allChecks a) (reports.verdicts (stackAsked a) (a .terms)) (now (verdicts .entry)))
-        × (now (records .exit) ≡ after (allChecks a) (recordSpace a (now (records .entry))) (now (records .entry)))
-        × Scratch (firstChecks a) (bytesNeeded a) (now (bytes .entry)) (now (bytes .exit))
-        × Scratch (firstChecks a) (wordsNeeded a) (now (words .entry)) (now (words .exit))
-        × (now (left .exit) ≡ after (allChecks a) (reportedOf a .crop .x) (now (left .entry)))
-        × (now (top .exit) ≡ after (allChecks a) (reportedOf a .crop .y) (now (top .entry)))
-        × (now (wide .exit) ≡ after (allChecks a) (reportedOf a .crop .width) (now (wide .entry)))
-        × (now (high .exit) ≡ after (allChecks a) (reportedOf a .crop .height) (now (high .entry)))
-        × (now (count .exit) ≡ after (allChecks a) (reportedOf a .records) (now (count .entry)))
+        let s : Reported = reportedOf (stackAsked (a .stack)) (a .terms) in
+        ReportPromise statusOf a r
+        (record {
+          lists = record { shifts = now (shifts .entry); verdicts = now (verdicts .entry); records = now (records .entry) };
+          bytes = now (bytes .entry);
+          words = now (words .entry);
+        })
+        (record {
+          lists = record { shifts = now (shifts .exit); verdicts = now (verdicts .exit); records = now (records .exit) };
+          bytes = now (bytes .exit);
+          words = now (words .exit);
+        })
+        × (now (left .exit) ≡ after (allChecks a) (s .crop .x) (now (left .entry)))
+        × (now (top .exit) ≡ after (allChecks a) (s .crop .y) (now (top .entry)))
+        × (now (wide .exit) ≡ after (allChecks a) (s .crop .width) (now (wide .entry)))
+        × (now (high .exit) ≡ after (allChecks a) (s .crop .height) (now (high .entry)))
+        × (now (count .exit) ≡ after (allChecks a) (s .records) (now (count .entry)))
         × (now (values .exit) ≡ valuesAfter (answer (allChecks a) (tt {0})) (now (values .entry))))
         ⌝ }
 {

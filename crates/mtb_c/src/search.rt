@@ -5,14 +5,9 @@ use super::refusals::status_with;
 use mtb_align::align::Options;
 use mtb_align::align::StepAnswer;
 ghost use mathlib.Core.Path.{_≡_};
-ghost use mathlib.Core.List.{List};
-ghost use Prim.Native.Nat.{ℕ};
-ghost use lib.ListN.{length, getD};
-ghost use Rattle.definitions.specs.Geometry.{listed};
-ghost use Rattle.definitions.specs.Align.{Exposure, step, comparisons as comparisonsOf, stackOf, stepBytes, stepWords, stackNeed};
-ghost use Rattle.definitions.specs.Align as stacks;
-ghost use Rattle.definitions.specs.Refusals.{Check, answer, after, Scratch, stepChecks, stackChecks};
-ghost use Rattle.mtb_align.specs.Search.{exposureOf};
+ghost use lib.ListN.{length};
+ghost use Rattle.definitions.specs.Refusals.{answer, after};
+ghost use Rattle.mtb_align.specs.Asked.{StepAsked, StackAsked, checksOfStep, stepAsked, checksOfStack, StepPromise, StackPromise};
 ghost use Rattle.mtb_c.specs.Status.{statusOf, valuesAfter, optionsOf};
 
 // The step and its comparisons. Refusal 4 gives both sizes.
@@ -36,18 +31,25 @@ pub extern "C" fn mtb_shift(
     values: &mut [usize; 5],
 ) -> u32
     ensures { λ r. ⌜
-        (let options : stacks.Options = optionsOf bits tolerance subsampled in
-        let first : Exposure = exposureOf (now (reference .entry)) percentile in
-        let second : Exposure = exposureOf (now (target .entry)) percentile in
-        let checks : List Check = stepChecks width height «target_width» «target_height» percentile bits
-        (length (now (reference .entry))) (length (now (target .entry))) (length (now (bytes .entry))) (length (now (words .entry))) in
-        (r ≡ statusOf (answer checks (tt {0})))
-        × Scratch checks (stepBytes width height bits) (now (bytes .entry)) (now (bytes .exit))
-        × Scratch checks (stepWords width height) (now (words .entry)) (now (words .exit))
-        × (now (x .exit) ≡ after checks (step options width height first second .x) (now (x .entry)))
-        × (now (y .exit) ≡ after checks (step options width height first second .y) (now (y .entry)))
-        × (now (comparisons .exit) ≡ after checks (comparisonsOf options width height first second) (now (comparisons .entry)))
-        × (now (values .exit) ≡ valuesAfter (answer checks (tt {0})) (now (values .entry))))
+        (let a : StepAsked = record {
+          width = width;
+          height = height;
+          targetWidth = «target_width»;
+          targetHeight = «target_height»;
+          reference = now (reference .entry);
+          target = now (target .entry);
+          percentile = percentile;
+          options = optionsOf bits tolerance subsampled;
+          bytes = length (now (bytes .entry));
+          words = length (now (words .entry));
+        } in
+        StepPromise statusOf a r
+        (record { bytes = now (bytes .entry); words = now (words .entry) })
+        (record { bytes = now (bytes .exit); words = now (words .exit) })
+        × (now (x .exit) ≡ after (checksOfStep a) (stepAsked a .shift .x) (now (x .entry)))
+        × (now (y .exit) ≡ after (checksOfStep a) (stepAsked a .shift .y) (now (y .entry)))
+        × (now (comparisons .exit) ≡ after (checksOfStep a) (stepAsked a .comparisons) (now (comparisons .entry)))
+        × (now (values .exit) ≡ valuesAfter (answer (checksOfStep a) (tt {0})) (now (values .entry))))
         ⌝ }
 {
     let options = Options {
@@ -98,17 +100,21 @@ pub extern "C" fn mtb_align_stack(
     values: &mut [usize; 5],
 ) -> u32
     ensures { λ r. ⌜
-        (let n : ℕ = length (now (widths .entry)) in
-        let w : ℕ = getD (now (widths .entry)) 0 0 in
-        let h : ℕ = getD (now (heights .entry)) 0 0 in
-        let stack : stacks.Stack = stackOf (now (widths .entry)) (now (heights .entry)) (now (samples .entry)) reference percentile (optionsOf bits tolerance subsampled) in
-        let checks : List Check = stackChecks (now (widths .entry)) (now (heights .entry)) percentile reference bits
-        (length (now (samples .entry))) (length (now (shifts .entry))) (length (now (bytes .entry))) (length (now (words .entry))) in
-        (r ≡ statusOf (answer checks (tt {0})))
-        × (now (shifts .exit) ≡ after checks (listed (stacks.shifts stack)) (now (shifts .entry)))
-        × Scratch checks (stackNeed n (stepBytes w h bits)) (now (bytes .entry)) (now (bytes .exit))
-        × Scratch checks (stackNeed n (stepWords w h)) (now (words .entry)) (now (words .exit))
-        × (now (values .exit) ≡ valuesAfter (answer checks (tt {0})) (now (values .entry))))
+        (let a : StackAsked = record {
+          widths = now (widths .entry);
+          heights = now (heights .entry);
+          samples = now (samples .entry);
+          reference = reference;
+          percentile = percentile;
+          options = optionsOf bits tolerance subsampled;
+          shifts = length (now (shifts .entry));
+          bytes = length (now (bytes .entry));
+          words = length (now (words .entry));
+        } in
+        StackPromise statusOf a r
+        (record { shifts = now (shifts .entry); bytes = now (bytes .entry); words = now (words .entry) })
+        (record { shifts = now (shifts .exit); bytes = now (bytes .exit); words = now (words .exit) })
+        × (now (values .exit) ≡ valuesAfter (answer (checksOfStack a) (tt {0})) (now (values .entry))))
         ⌝ }
 {
     let options = Options {

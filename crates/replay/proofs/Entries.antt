@@ -1,4 +1,4 @@
--- Loops over the entries of a list: one that compares them, one that looks for marks, one that stores them. Assumes nothing.
+-- Loops over the entries of a list: one that compares them, one that looks for marks, one that stores them.
 use mathlib.Core.Path.{_≡_, sym, ap, _∙_}
 use mathlib.Core.List.{List}
 use Prim.Native.Nat.{ℕ, suc, _+_, _≤_, _<_}
@@ -6,7 +6,7 @@ use native.Mathlib.Numerals.{add-one}
 use native.Mathlib.Omega.{arith}
 use lib.ListN.{length, getD, drop, set, replicate, length-replicate, getD-replicate, drop-of-length-le}
 use lib.Seq.{sets, drop-cons, ext-getD}
-use Rattle.laws.specs.Writes.{sets-out}
+use Rattle.laws.specs.general.Writes.{sets-out}
 use Rattle.replay.specs.Lists.{Marked}
 
 module _ {A : Type 0} (d : A) where

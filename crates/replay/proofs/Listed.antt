@@ -1,17 +1,13 @@
--- Answers that a line ends with: refusals, and lists behind their length. Assumes nothing.
+-- Answers that a line ends with: refusals, and lists behind their length.
 use mathlib.Core.Path.{_≡_, refl, sym, ap, ap₂, _∙_, subst}
 use mathlib.Core.Bool.{Bool}
 use mathlib.Core.List.{List, [], _∷_}
 use Prim.Native.Nat.{ℕ, _-_, _≤_}
 use native.Mathlib.Omega.{arith}
-use denote.Enum.Declared.{tagOf}
 use lib.ListN.{length, getD, take, drop, length-drop}
 use lib.Seq.{take-all}
-use types.Run.{OneOf, miss}
-use Rattle.mtb_align.proofs.error.Error.{the-type}
 use Rattle.mtb_align.specs.Answers.{numberOf, valuesOf}
 use Rattle.mtb_align.specs.declared.error.Error.{Error}
-use Rattle.mtb_align.specs.declared.error.Error.the-variants.{Side, Length, Percentile, SizeMismatch, FrameMismatch, NoSuchReference, Frames, Scratch, Padding, Reach, Records, Outside, Coordinate}
 use Rattle.replay.specs.Lists.{Whether, Marked}
 use Rattle.replay.specs.Answers.{refusalLine}
 use Rattle.replay.proofs.Told.{told-as}
@@ -22,25 +18,6 @@ told-list e w = told-as (λ p. p ∙ e) (λ p. p ∙ sym e) w
 
 pub line-of : (e : Error) {n : ℕ} {l : List ℕ} → n ≡ numberOf e → l ≡ valuesOf e → n ∷ length l ∷ l ≡ refusalLine e
 line-of e p q = ap₂ (λ (n : ℕ) (l : List ℕ). n ∷ length l ∷ l) p q
-
--- the tags of refusals with no values
-abbrev bare : List ℕ
-bare = 0 ∷ 1 ∷ 2 ∷ 6 ∷ 7 ∷ 8 ∷ 9 ∷ 11 ∷ 12 ∷ []
-
-pub no-values : (e : Error) → OneOf bare (tagOf the-type e) → [] ≡ valuesOf e
-no-values Side h = refl
-no-values Length h = refl
-no-values Percentile h = refl
-no-values (SizeMismatch r t) h = absurd (miss bare 3 tt h)
-no-values (FrameMismatch n t k) h = absurd (miss bare 4 tt h)
-no-values (NoSuchReference r n) h = absurd (miss bare 5 tt h)
-no-values Frames h = refl
-no-values Scratch h = refl
-no-values Padding h = refl
-no-values Reach h = refl
-no-values (Records n) h = absurd (miss bare 10 tt h)
-no-values Outside h = refl
-no-values Coordinate h = refl
 
 -- the first two numbers and the rest
 front-two : (l : List ℕ) → 2 ≤ length l → l ≡ getD l 0 0 ∷ getD l 1 0 ∷ drop 2 l

@@ -1,4 +1,4 @@
--- A line that is read character by character. Assumes nothing.
+-- A line that is read character by character.
 use mathlib.Core.Path.{_≡_, refl, sym, ap, _∙_, subst}
 use mathlib.Core.Bool.{Bool, false, _&&_, _||_}
 use mathlib.Core.List.{List, [], _∷_}

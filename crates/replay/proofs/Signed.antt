@@ -1,4 +1,4 @@
--- Numbers of a line as coordinates. Assumes nothing.
+-- Numbers of a line as coordinates.
 use mathlib.Core.Path.{_≡_, sym, ap, _∙_, subst}
 use mathlib.Core.Bool.{Bool, _&&_}
 use mathlib.Core.Logic.{⊎-elim}
@@ -10,9 +10,9 @@ use lib.IntN.{ℤ, pos, _-ℤ_}
 use mir.Syntax.{w32}
 use mir.Val.{SFits, toZ, ofZ}
 use mir.Facts.{toZ-ofZ}
-use Rattle.laws.specs.Cases.{lt-or-le}
-use Rattle.laws.specs.Machine.{fits32}
-use Rattle.laws.specs.Whole.{alone, minus}
+use Rattle.laws.specs.general.Cases.{lt-or-le}
+use Rattle.laws.specs.general.Machine.{fits32}
+use Rattle.laws.specs.general.Whole.{alone, minus}
 use Rattle.replay.specs.Lists.{coordinateOf}
 use Rattle.replay.proofs.Told.{chosen, passed, and-no, and-yes}
 

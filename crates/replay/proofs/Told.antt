@@ -1,7 +1,7 @@
--- What a test's answer tells. Assumes nothing.
+-- What a test's answer tells.
 use mathlib.Core.Path.{_≡_, refl, sym, ap, ap₂, _∙_}
 use mathlib.Core.Bool.{Bool, true, false, cond, _&&_}
-use Rattle.laws.specs.Cases.{clash}
+use Rattle.laws.specs.general.Cases.{clash}
 use Rattle.replay.specs.Lists.{Whether}
 
 pub yes : {P : Type 0} → P → Whether true P

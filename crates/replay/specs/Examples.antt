@@ -4,7 +4,8 @@ use mathlib.Core.Bool.{true}
 use mathlib.Core.List.{[], _∷_}
 use lib.IntN.{pos, negsuc}
 use Rattle.replay.specs.Lines.{withDigit, grown, number, numbersFrom, numbersOf, lineLength}
-use Rattle.replay.specs.Lists.{coordinateOf, fieldAt}
+use Rattle.definitions.specs.Report.{fieldOf}
+use Rattle.replay.specs.Lists.{coordinateOf}
 
 -- "12 -3", a line's end, and "7", which has none
 two-numbers : (numbersOf (49 ∷ 50 ∷ 32 ∷ 45 ∷ 51 ∷ 10 ∷ 55 ∷ []) ≡ 12 ∷ 9223372036854775811 ∷ []) × (lineLength (49 ∷ 50 ∷ 32 ∷ 45 ∷ 51 ∷ 10 ∷ 55 ∷ []) ≡ 6)
@@ -17,7 +18,7 @@ coordinates-read : (coordinateOf (number true 3) ≡ negsuc 2) × (coordinateOf 
 unfolding number coordinateOf
 coordinates-read = (refl, refl, refl)
 
--- -29 as the bytes of a record
-field-read : fieldAt (1 ∷ 227 ∷ 255 ∷ 255 ∷ 255 ∷ []) 1 ≡ 4294967267
-unfolding fieldAt
+-- -29 as the second field
+field-read : fieldOf (1 ∷ 0 ∷ 0 ∷ 0 ∷ 227 ∷ 255 ∷ 255 ∷ 255 ∷ []) 0 1 ≡ 4294967267
+unfolding fieldOf
 field-read = refl

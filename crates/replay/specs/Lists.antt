@@ -1,12 +1,13 @@
 -- What a test answers, and how numbers of a line are read.
-use Prim.Native.Nat.{ℕ, _+_, _-_, _*_, _%_}
+use Prim.Native.Nat.{ℕ, _-_, _*_, _%_}
 use mathlib.Core.Path.{_≡_}
 use mathlib.Core.Bool.{Bool, true, cond, _&&_}
 use mathlib.Core.List.{List}
 use lib.Dec.{ltb, leb}
 use lib.IntN.{ℤ, pos, _-ℤ_}
-use lib.ListN.{length, getD, replicate}
+use lib.ListN.{length, replicate}
 use Rattle.definitions.specs.Build.{build}
+use Rattle.definitions.specs.Report.{fieldOf}
 
 -- A test's answer: yes just where the claim holds.
 abbrev pub Whether : Bool → Type 0 → Type 0
@@ -16,15 +17,10 @@ Whether answer claim = (answer ≡ true → claim) × (claim → answer ≡ true
 abbrev pub Marked : {A : Type 0} → A → List A → Type 0
 Marked mark l = l ≡ replicate (length l) mark
 
--- 32 bits from a byte on, low byte first.
-unfoldable pub fieldAt : List ℕ → ℕ → ℕ
-fieldAt bytes at =
-    getD bytes at 0 + 256 * getD bytes (at + 1) 0 + 65536 * getD bytes (at + 2) 0 + 16777216 * getD bytes (at + 3) 0
-
--- Bytes that are these fields of 32 bits.
+-- Bytes that are these fields of records, counted through from the first record on.
 pub record Fields (numbers bytes : List ℕ) : Type 0 where
   pub long : length bytes ≡ 4 * length numbers
-  pub each : numbers ≡ build (length numbers) (λ (i : ℕ). fieldAt bytes (4 * i))
+  pub each : numbers ≡ build (length numbers) (fieldOf bytes 0)
 
 -- A number as a byte.
 abbrev pub byteOf : ℕ → ℕ

@@ -24,7 +24,8 @@ pub fn mode(subsampled: usize) -> Shrink
     Shrink::Average
 }
 
-pub fn bits(n: usize) -> u32
+// The low 32 bits.
+pub fn bits32(n: usize) -> u32
     ensures { λ r. ⌜ r ≡ n % 4294967296 ⌝ }
 {
     (n % 4294967296) as u32
@@ -44,7 +45,7 @@ pub fn options(numbers: &[u64]) -> Options
     ensures { λ r. ⌜ r .shrink ≡ modeAt (getD (now (numbers .entry)) 3 0) ⌝ }
 {
     Options {
-        bits: bits(at(numbers, 0)),
+        bits: bits32(at(numbers, 0)),
         tolerance: byte(at(numbers, 1)),
         percentile: byte(at(numbers, 2)),
         shrink: mode(at(numbers, 3)),

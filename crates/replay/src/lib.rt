@@ -4,13 +4,14 @@ pub mod answers;
 ghost use mathlib.Core.Path.{_≡_};
 ghost use mathlib.Core.Bool.{_||_};
 ghost use mathlib.Core.List.{map};
-ghost use Prim.Native.Nat.{_+_, _≤_, _<_};
+ghost use Prim.Native.Nat.{_+_, _*_, _≤_, _<_};
 ghost use lib.Dec.{eqb};
 ghost use lib.IntN.{negsuc};
 ghost use lib.ListN.{length, getD, take, drop, set};
 ghost use lib.Seq.{sets};
 ghost use Rattle.replay.specs.Lines as lines;
-ghost use Rattle.replay.specs.Lists.{Whether, Marked, Fields, byteOf, coordinateOf, fieldAt};
+ghost use Rattle.definitions.specs.Report.{fieldOf};
+ghost use Rattle.replay.specs.Lists.{Whether, Marked, Fields, byteOf, coordinateOf};
 
 // How many numbers a line has, and where the next line begins.
 pub struct Line {
@@ -24,6 +25,12 @@ pub const MARK: u8 = 165;
 pub const MARK_WORD: u64 = 11936128518282651045;
 
 pub const MARK_COORDINATE: i32 = -1515870811;
+
+// What is added to the magnitude of a negative number of a line.
+const NEGATIVE: u64 = 9223372036854775808;
+
+// Bytes of a record's field.
+const FIELD_BYTES: usize = 4;
 
 // ---- lines
 
@@ -75,7 +82,7 @@ fn number(negative: bool, value: u64) -> u64
     ensures { λ r. ⌜ r ≡ lines.number negative value ⌝ }
 {
     if negative {
-        return value % 9223372036854775808 + 9223372036854775808;
+        return value % NEGATIVE + NEGATIVE;
     }
     value
 }
@@ -164,10 +171,10 @@ fn coordinate_of(value: u64) -> i32
     if value < 2147483648 {
         return value as i32;
     }
-    if value < 9223372036854775808 {
+    if value < NEGATIVE {
         return 0;
     }
-    let magnitude = value - 9223372036854775808;
+    let magnitude = value - NEGATIVE;
     if magnitude < 2147483648 {
         return 0 - magnitude as i32;
     }
@@ -291,30 +298,31 @@ pub fn same_coordinates(numbers: &[u64], got: &[i32]) -> bool
     true
 }
 
-// 32 bits, low byte first.
-fn field_at(bytes: &[u8], at: usize) -> u64
-    requires { ⌜ at + 4 ≤ length (now bytes) ⌝ }
-    ensures { λ r. ⌜ r ≡ fieldAt (now (bytes .entry)) at ⌝ }
+// Field i, counted through from the first record on: 32 bits, low byte first.
+fn field(bytes: &[u8], i: usize) -> u64
+    requires { ⌜ 4 * i + 4 ≤ length (now bytes) ⌝ }
+    ensures { λ r. ⌜ r ≡ fieldOf (now (bytes .entry)) 0 i ⌝ }
 {
+    let at = FIELD_BYTES * i;
     wide(bytes[at])
         + 256 * wide(bytes[at + 1])
         + 65536 * wide(bytes[at + 2])
         + 16777216 * wide(bytes[at + 3])
 }
 
-// The numbers are the fields of 32 bits that the bytes hold.
+// The numbers are the fields of the records that the bytes hold.
 pub fn same_fields(numbers: &[u64], got: &[u8]) -> bool
     ensures { λ r. ⌜ Whether r (Fields (now (numbers .entry)) (now (got .entry))) ⌝ }
 {
-    if got.len() % 4 != 0 {
+    if got.len() % FIELD_BYTES != 0 {
         return false;
     }
-    if got.len() / 4 != numbers.len() {
+    if got.len() / FIELD_BYTES != numbers.len() {
         return false;
     }
     let mut i: usize = 0;
     while i < numbers.len() {
-        if numbers[i] != field_at(got, 4 * i) {
+        if numbers[i] != field(got, i) {
             return false;
         }
         i += 1;

@@ -1,4 +1,4 @@
--- The records of a frame among those that are read back from their bytes. Assumes nothing.
+-- The records of a frame among those that are read back from their bytes.
 use mathlib.Core.Path.{_≡_, refl, sym, ap, ap₂, _∙_}
 use mathlib.Core.Bool.{Bool, true, false, cond}
 use mathlib.Core.List.{List, [], _∷_, _++_, map, append-assoc, append-nil}
@@ -13,10 +13,10 @@ use Rattle.definitions.specs.Build.{build, joined, keepIf}
 use Rattle.definitions.specs.Geometry.{Shift}
 use Rattle.definitions.specs.Align.{Stack}
 use Rattle.definitions.specs.Report.{Terms, frameCounts, rivals, Record, frameRecords, records, recordsBytes, recordAt}
-use Rattle.laws.specs.Cases.{lt-or-le}
-use Rattle.laws.specs.ReadBack.{records-read}
-use Rattle.laws.specs.Steps.{Small}
-use Rattle.laws.specs.Surveys.{keep-joined, keep-none, keep-more, keep-count, keep-few}
+use Rattle.laws.specs.general.Cases.{lt-or-le}
+use Rattle.laws.specs.report.ReadBack.{records-read}
+use Rattle.laws.specs.search.StepBounds.{Small}
+use Rattle.laws.specs.report.Keeping.{keep-joined, keep-none, keep-more, keep-count, keep-few}
 use Rattle.steps.specs.Text.{recordLine, recordLines}
 use Rattle.steps.specs.Inner.{recordsOf}
 

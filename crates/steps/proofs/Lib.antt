@@ -3,4 +3,4 @@ pub mod Decoded
 pub mod Numbers
 pub mod Puts
 pub mod Room
-pub mod Stacked
+pub mod Called

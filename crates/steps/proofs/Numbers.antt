@@ -1,4 +1,4 @@
--- Numbers in decimal digits, and whole numbers by their sign and size. Assumes nothing.
+-- Numbers in decimal digits, and whole numbers by their sign and size.
 use mathlib.Core.Path.{_≡_, refl, sym, ap, _∙_}
 use mathlib.Core.Bool.{Bool, true, false, cond}
 use mathlib.Core.List.{_++_}
@@ -10,8 +10,8 @@ use lib.IntN.{ℤ, pos, negsuc, natAbs}
 use lib.Signed.{ltZ}
 use Rattle.io.specs.Digits.{digits, Fewest}
 use Rattle.definitions.specs.Geometry.{behind}
-use Rattle.laws.specs.Cases.{lt-or-le}
-use Rattle.laws.specs.Whole.{alone, lt-true, lt-false}
+use Rattle.laws.specs.general.Cases.{lt-or-le}
+use Rattle.laws.specs.general.Whole.{alone, lt-true, lt-false}
 use Rattle.steps.specs.Text.{ascii, placesUpTo, decimal, integer}
 use Rattle.definitions.specs.Report.{signedOf}
 

@@ -1,4 +1,4 @@
--- Texts that are put into a buffer one after another. Assumes nothing.
+-- Texts that are put into a buffer one after another.
 use mathlib.Core.Path.{_≡_, refl, sym, ap, ap₂, _∙_, subst}
 use mathlib.Core.List.{List, [], _∷_, _++_}
 use mathlib.Core.Logic.{⊎-elim}
@@ -6,8 +6,8 @@ use Prim.Native.Nat.{ℕ, suc, _+_, _≤_, _<_, min}
 use native.Mathlib.Omega.{arith}
 use lib.ListN.{length, take, drop, set, length-append}
 use lib.Seq.{sets, length-sets, drop-nil}
-use Rattle.laws.specs.Cases.{lt-or-le}
-use Rattle.laws.specs.Writes.{sets-append, sets-out}
+use Rattle.laws.specs.general.Cases.{lt-or-le}
+use Rattle.laws.specs.general.Writes.{sets-append, sets-out}
 use Rattle.steps.specs.Inner.{Put}
 
 -- no text

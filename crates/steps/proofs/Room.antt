@@ -1,4 +1,4 @@
--- No text is longer than 8,192 bytes. Assumes nothing.
+-- No text is longer than 8,192 bytes.
 use mathlib.Core.Path.{_≡_, refl, ap}
 use mathlib.Core.List.{List, [], _∷_, _++_, map, List·Memᴰ, List·Memᴰ·head, List·Memᴰ·tail}
 use mathlib.Core.Logic.{⊎-elim}
@@ -11,16 +11,16 @@ use Rattle.definitions.specs.Build.{build, joined}
 use Rattle.definitions.specs.Geometry.{Shift, origin, ahead, largest, commonCrop}
 use Rattle.definitions.specs.Align.{Stack, shiftOf, shifts}
 use Rattle.definitions.specs.Report.{Record, frameCounts, rivals, frameRecords, records, verdict, reportCrop}
-use Rattle.laws.specs.Cases.{lt-or-le, eq-or-ne}
-use Rattle.laws.specs.Crop.{largest-le}
-use Rattle.laws.specs.Lists.{build-at, build-length}
-use Rattle.laws.specs.Members.{in-joined, joined-sum}
-use Rattle.laws.specs.Steps.{abs-parts, shift-small}
-use Rattle.laws.specs.Sums.{sum-le}
-use Rattle.laws.specs.Surveys.{rivals-window}
+use Rattle.laws.specs.general.Cases.{lt-or-le, eq-or-ne}
+use Rattle.laws.specs.images.Crop.{largest-le}
+use Rattle.laws.specs.general.Lists.{build-at, build-length}
+use Rattle.laws.specs.general.Members.{in-joined, joined-sum}
+use Rattle.laws.specs.search.StepBounds.{abs-parts, shift-small}
+use Rattle.laws.specs.general.Sums.{sum-le}
+use Rattle.laws.specs.report.Surveys.{rivals-window}
 use Rattle.steps.specs.Text.{ascii, placesUpTo, decimal, integer, line, heading, verdictWord, frameLine, recordLine, recordLines, frameText, reportText, inputTerms, refusalText, text}
 use Rattle.steps.proofs.Numbers.{one-place, more-places}
-use Rattle.steps.proofs.Stacked.{Few, Short, small, short, few-from, stackFrom, text-long, text-part, text-none, text-report}
+use Rattle.steps.proofs.Called.{Few, Short, small, short, few-from, stackFrom, text-long, text-part, text-none, text-report}
 
 -- ---- words
 

@@ -1,209 +1,54 @@
 // The text that the program stacksteps prints for its input: the report of up to eight frames of 64 by 64 samples.
+mod records;
+mod text;
+
 use mtb_align::align::Options;
 use mtb_align::geometry::Rect;
 use mtb_align::report::ReportAnswer;
 use mtb_align::report::Summary;
 use mtb_align::report::Terms;
 use mtb_align::shrink::Shrink;
+use records::RECORD_BYTES;
+use records::number_of;
+use records::put_records;
+use text::put_byte;
+use text::put_bytes;
+use text::put_coordinate;
+use text::put_next;
+use text::put_number;
 ghost use mathlib.Core.Path.{_≡_};
 ghost use mathlib.Core.Bool.{cond};
-ghost use mathlib.Core.List.{[], _∷_, _++_};
+ghost use mathlib.Core.List.{_++_};
 ghost use Prim.Native.Nat.{_+_, _*_, _≤_, _<_, min};
 ghost use lib.Dec.{eqb};
-ghost use lib.IntN.{natAbs};
-ghost use lib.ListN.{length, getD, take, drop, replicate};
+ghost use lib.ListN.{length, take, drop, replicate};
 ghost use Rattle.definitions.specs.Build.{joined};
 ghost use Rattle.definitions.specs.Geometry.{listed};
 ghost use Rattle.definitions.specs.Align as stacks;
-ghost use Rattle.definitions.specs.Report.{fieldOf, signedOf, recordAt};
 ghost use Rattle.definitions.specs.Report as reports;
 ghost use Rattle.mtb_align.specs.Answers.{rectIn};
 ghost use Rattle.mtb_align.specs.Search.{optionsIn};
 ghost use Rattle.mtb_align.specs.Survey.{termsIn};
-ghost use Rattle.steps.specs.Text.{ascii, decimal, integer, heading, verdictWord, frameLine, recordLine, recordLines, inputStack, inputOptions, inputTerms, refusalText, text};
-ghost use Rattle.steps.specs.Inner.{Put, recordsOf, frameTextIn};
+ghost use Rattle.steps.specs.Text.{ascii, heading, verdictWord, frameLine, inputStack, inputOptions, inputTerms, refusalText, text};
+ghost use Rattle.steps.specs.Inner.{Put, frameTextIn};
 
-// ---- text, as far as there is room
+// An input has frames of this side, no more than so many.
+const SIDE: usize = 64;
 
-// The answer of each function that puts text is where the next byte goes.
-fn put_byte(out: &mut [u8], at: usize, byte: u8) -> usize
-    requires { ⌜ at ≤ length (now out) ⌝ }
-    ensures { λ r. ⌜ Put (now (out .entry)) at (byte ∷ []) (now (out .exit)) r ⌝ }
-{
-    if at < out.len() {
-        out[at] = byte;
-        return at + 1;
-    }
-    at
-}
+const FRAMES: usize = 8;
 
-fn put_bytes(out: &mut [u8], at: usize, bytes: &[u8]) -> usize
-    requires { ⌜ at ≤ length (now out) ⌝ }
-    ensures { λ r. ⌜ Put (now (out .entry)) at (now (bytes .entry)) (now (out .exit)) r ⌝ }
-{
-    let mut next = at;
-    let mut i: usize = 0;
-    while i < bytes.len() {
-        next = put_byte(out, next, bytes[i]);
-        i += 1;
-    }
-    next
-}
+// Samples of a frame, and of the longest input.
+const FRAME: usize = SIDE * SIDE;
 
-fn put_number(out: &mut [u8], at: usize, value: u64) -> usize
-    requires { ⌜ at ≤ length (now out) ⌝ }
-    ensures { λ r. ⌜ Put (now (out .entry)) at (decimal value) (now (out .exit)) r ⌝ }
-{
-    let mut digits = [0u8; 20];
-    let n = io::decimal(value, &mut digits);
-    put_bytes(out, at, &digits[..n])
-}
+const INPUT: usize = FRAMES * FRAME;
 
-// A blank, then the number.
-fn put_next(out: &mut [u8], at: usize, value: u64) -> usize
-    requires { ⌜ at ≤ length (now out) ⌝ }
-    ensures { λ r. ⌜ Put (now (out .entry)) at (ascii " " ++ decimal value) (now (out .exit)) r ⌝ }
-{
-    let next = put_byte(out, at, b' ');
-    put_number(out, next, value)
-}
+// Nine rivals for each frame but the reference are all that a reach of 1 can find.
+const RECORD_SPACE: usize = 7 * 9 * RECORD_BYTES;
 
-// A blank, a minus sign, then the number.
-fn put_negative(out: &mut [u8], at: usize, value: u64) -> usize
-    requires { ⌜ at ≤ length (now out) ⌝ }
-    ensures { λ r. ⌜ Put (now (out .entry)) at (ascii " -" ++ decimal value) (now (out .exit)) r ⌝ }
-{
-    let next = put_bytes(out, at, b" -");
-    put_number(out, next, value)
-}
+// The halved levels of two frames, and the bitmaps of both.
+const SCRATCH: usize = 2 * (32 * 32 + 16 * 16 + 8 * 8 + 4 * 4 + 2 * 2);
 
-// How far a coordinate lies from 0.
-fn magnitude(coordinate: i32) -> u64
-    ensures { λ r. ⌜ r ≡ natAbs coordinate ⌝ }
-{
-    if coordinate < 0 {
-        return (0 - coordinate as i64) as u64;
-    }
-    coordinate as u64
-}
-
-// A blank, then the coordinate.
-fn put_coordinate(out: &mut [u8], at: usize, coordinate: i32) -> usize
-    requires { ⌜ at ≤ length (now out) ⌝ }
-    ensures { λ r. ⌜ Put (now (out .entry)) at (ascii " " ++ integer coordinate) (now (out .exit)) r ⌝ }
-{
-    let size = magnitude(coordinate);
-    if coordinate < 0 {
-        return put_negative(out, at, size);
-    }
-    put_next(out, at, size)
-}
-
-// ---- records
-
-// The byte at `at`, and 0 past the end.
-fn byte_at(records: &[u8], at: usize) -> u64
-    ensures { λ r. ⌜ (r ≡ getD (now (records .entry)) at 0) × (r < 256) ⌝ }
-{
-    if at < records.len() {
-        return wide(records[at]);
-    }
-    0
-}
-
-fn wide(byte: u8) -> u64
-    ensures { λ r. ⌜ (r ≡ byte) × (r < 256) ⌝ }
-{
-    byte as u64
-}
-
-// Field f of record i: 32 bits, low byte first.
-fn field(records: &[u8], i: usize, f: usize) -> u64
-    requires { ⌜ (i < 65536) × (f < 5) ⌝ }
-    ensures { λ r. ⌜ (r ≡ fieldOf (now (records .entry)) i f) × (r < 4294967296) ⌝ }
-{
-    let at = 20 * i + 4 * f;
-    byte_at(records, at)
-        + 256 * byte_at(records, at + 1)
-        + 65536 * byte_at(records, at + 2)
-        + 16777216 * byte_at(records, at + 3)
-}
-
-// A blank, then a field that is signed, by two's complement.
-fn put_signed_field(out: &mut [u8], at: usize, bits: u64) -> usize
-    requires { ⌜ (at ≤ length (now out)) × (bits < 4294967296) ⌝ }
-    ensures { λ r. ⌜ Put (now (out .entry)) at (ascii " " ++ integer (signedOf bits)) (now (out .exit)) r ⌝ }
-{
-    if bits >= 2147483648 {
-        return put_negative(out, at, 4294967296 - bits);
-    }
-    put_next(out, at, bits)
-}
-
-// Record i's line.
-fn put_record(out: &mut [u8], at: usize, records: &[u8], i: usize) -> usize
-    requires { ⌜ (at ≤ length (now out)) × (i < 65536) ⌝ }
-    ensures { λ r. ⌜ Put (now (out .entry)) at (recordLine (recordAt (now (records .entry)) i)) (now (out .exit)) r ⌝ }
-{
-    let mut next = put_number(out, at, field(records, i, 0));
-    next = put_signed_field(out, next, field(records, i, 1));
-    next = put_signed_field(out, next, field(records, i, 2));
-    next = put_next(out, next, field(records, i, 3));
-    next = put_next(out, next, field(records, i, 4));
-    put_byte(out, next, b'\n')
-}
-
-// Record i's line if the record is one of frame k.
-fn put_record_of(out: &mut [u8], at: usize, records: &[u8], i: usize, k: usize) -> usize
-    requires { ⌜ (at ≤ length (now out)) × (i < 65536) ⌝ }
-    ensures { λ r. ⌜ Put (now (out .entry)) at (recordLines (cond (eqb (recordAt (now (records .entry)) i .frame) k) (recordAt (now (records .entry)) i ∷ []) [])) (now (out .exit)) r ⌝ }
-{
-    if field(records, i, 0) == k as u64 {
-        return put_record(out, at, records, i);
-    }
-    at
-}
-
-// The lines of frame k's records, among the first `count`.
-fn put_records(out: &mut [u8], at: usize, records: &[u8], count: usize, k: usize) -> usize
-    requires { ⌜ (at ≤ length (now out)) × (count ≤ 65536) ⌝ }
-    ensures { λ r. ⌜ Put (now (out .entry)) at (recordLines (recordsOf (now (records .entry)) count k)) (now (out .exit)) r ⌝ }
-{
-    let mut next = at;
-    let mut i: usize = 0;
-    while i < count {
-        next = put_record_of(out, next, records, i, k);
-        i += 1;
-    }
-    next
-}
-
-// 1 for a record of frame k.
-fn one_if_of(records: &[u8], i: usize, k: usize) -> usize
-    requires { ⌜ i < 65536 ⌝ }
-    ensures { λ r. ⌜ r ≡ cond (eqb (recordAt (now (records .entry)) i .frame) k) 1 0 ⌝ }
-{
-    if field(records, i, 0) == k as u64 {
-        return 1;
-    }
-    0
-}
-
-// How many of the first `count` records are of frame k.
-fn number_of(records: &[u8], count: usize, k: usize) -> usize
-    requires { ⌜ count ≤ 65536 ⌝ }
-    ensures { λ r. ⌜ r ≡ length (recordsOf (now (records .entry)) count k) ⌝ }
-{
-    let mut number: usize = 0;
-    let mut i: usize = 0;
-    while i < count {
-        number += one_if_of(records, i, k);
-        i += 1;
-    }
-    number
-}
-
-// ---- the report
+const SCRATCH_WORDS: usize = 4 * SIDE;
 
 // A blank, then the verdict's word.
 fn put_verdict(out: &mut [u8], at: usize, verdict: u8) -> usize
@@ -311,7 +156,12 @@ fn put_summary(
     records: &[u8],
 ) -> usize
     requires { ⌜ (summary .records ≤ 65536) × (2 * n ≤ length (now shifts)) × (n ≤ length (now verdicts)) ⌝ }
-    ensures { λ r. ⌜ Put (now (out .entry)) 0 (heading n (rectIn (summary .crop)) ++ joined n (frameTextIn (now (shifts .entry)) (now (verdicts .entry)) (now (records .entry)) (summary .records))) (now (out .exit)) r ⌝ }
+    ensures { λ r. ⌜
+        Put (now (out .entry)) 0
+        (heading n (rectIn (summary .crop))
+        ++ joined n (frameTextIn (now (shifts .entry)) (now (verdicts .entry)) (now (records .entry)) (summary .records)))
+        (now (out .exit)) r
+        ⌝ }
 {
     let at = put_heading(out, n, summary.crop);
     put_frames(out, at, n, shifts, verdicts, records, summary.records)
@@ -363,10 +213,9 @@ fn put_answer(
     ensures shifts { λ _. ⌜ now (shifts .exit) ≡ cond (eqb (length (now (widths .entry))) 0) (now (shifts .entry)) (listed (stacks.shifts (inputStack (now (samples .entry))))) ⌝ }
     ensures verdicts { λ _. ⌜ now (verdicts .exit) ≡ cond (eqb (length (now (widths .entry))) 0) (now (verdicts .entry)) (reports.verdicts (inputStack (now (samples .entry))) inputTerms) ⌝ }
 {
-    // Nine rivals for each frame but the reference are all that a reach of 1 can find.
-    let mut records = [0u8; 1260];
-    let mut bytes = [0u8; 2728];
-    let mut words = [0u64; 256];
+    let mut records = [0u8; RECORD_SPACE];
+    let mut bytes = [0u8; SCRATCH];
+    let mut words = [0u64; SCRATCH_WORDS];
     let answer = mtb_align::report::report(
         widths,
         heights,
@@ -393,10 +242,10 @@ fn put_report(samples: &[u8], n: usize, out: &mut [u8]) -> usize
     requires { ⌜ (n ≤ 8) × (length (now samples) ≡ n * 4096) ⌝ }
     ensures { λ r. ⌜ Put (now (out .entry)) 0 (text (now (samples .entry))) (now (out .exit)) r ⌝ }
 {
-    let widths = [64usize; 8];
-    let heights = [64usize; 8];
-    let mut shifts = [0i32; 16];
-    let mut verdicts = [0u8; 8];
+    let widths = [SIDE; FRAMES];
+    let heights = [SIDE; FRAMES];
+    let mut shifts = [0i32; 2 * FRAMES];
+    let mut verdicts = [0u8; FRAMES];
     put_answer(
         &widths[0..n],
         &heights[0..n],
@@ -414,11 +263,11 @@ pub fn put_text(input: &[u8], out: &mut [u8]) -> usize
     ensures text { λ _. ⌜ now (out .exit) ≡ take (length (now (out .entry))) (text (now (input .entry))) ++ drop (length (text (now (input .entry)))) (now (out .entry)) ⌝ }
 {
     let len = input.len();
-    if len > 32768 {
+    if len > INPUT {
         return put_bytes(out, 0, b"bad input\n");
     }
-    if len % 4096 != 0 {
+    if len % FRAME != 0 {
         return put_bytes(out, 0, b"bad input\n");
     }
-    put_report(input, len / 4096, out)
+    put_report(input, len / FRAME, out)
 }

@@ -6,9 +6,16 @@ use replay::conclude;
 use replay::marked_bytes;
 use replay::read_line;
 
+// The longest that is read, an input, and a text.
+const CASES: usize = 524288;
+
+const INPUT: usize = 65536;
+
+const TEXT: usize = 8192;
+
 // The text for an input is `expected`, and nothing is written past it.
 fn text_agrees(input: &[u8], expected: &[u8]) -> bool {
-    let mut out = [MARK; 8192];
+    let mut out = [MARK; TEXT];
     let end = steps::put_text(input, &mut out);
     check::same(&out[0..end], expected) && marked_bytes(&out[end..])
 }
@@ -18,13 +25,13 @@ fn agrees(text: &[u8], count: usize, from: usize, n: usize, m: usize) -> bool {
     if count != 2 {
         return false;
     }
-    if n > 65536 {
+    if n > INPUT {
         return false;
     }
-    if m > 8192 {
+    if m > TEXT {
         return false;
     }
-    if from > 524288 {
+    if from > CASES {
         return false;
     }
     let middle = from + n;
@@ -37,10 +44,10 @@ fn agrees(text: &[u8], count: usize, from: usize, n: usize, m: usize) -> bool {
 
 // Where the next case begins.
 fn past(from: usize, n: usize, m: usize) -> usize {
-    if from > 524288 {
+    if from > CASES {
         return from;
     }
-    from + n % 524288 + m % 524288
+    from + n % CASES + m % CASES
 }
 
 fn run(text: &[u8]) {
@@ -65,7 +72,7 @@ fn run(text: &[u8]) {
 }
 
 fn main() {
-    let mut text = [0u8; 524288];
+    let mut text = [0u8; CASES];
     let n = io::read_full(0, &mut text);
     run(&text[..n]);
 }

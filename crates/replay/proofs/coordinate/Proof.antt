@@ -1,22 +1,9 @@
--- `replay::coordinate` meets its contract. Assumes nothing.
 use borrow.Author.Needs.{needs}
 use mathlib.Core.Path.{sym, ap}
 use lib.ListN.{List·getD-eq-default}
 use Rattle.replay.specs.Lists.{coordinateOf}
 use Rattle.replay.proofs.coordinate.Statement.{statement}
 use Rattle.replay.proofs.coordinate.Tie as tie
-
-mul-coordinate-of : tie.Need-mul-coordinate-of
-mul-coordinate-of c = search needs
-
-shared-slice-read-coordinate-of : tie.Need-shared-slice-read-coordinate-of
-shared-slice-read-coordinate-of c = search needs
-
-coordinate-of-requires : tie.Need-coordinate-of-requires
-coordinate-of-requires c κs = search needs
-
-returns : tie.Need-returns
-returns c = search needs
 
 returns-2 : tie.Need-returns-2
 unfolding coordinateOf
@@ -26,8 +13,8 @@ pub coordinate-spec : {M : Type 1} → statement M
 coordinate-spec =
     tie.close
     (tie.spec
-    mul-coordinate-of
-    shared-slice-read-coordinate-of
-    coordinate-of-requires
-    returns
+    (λ c. search needs)
+    (λ c. search needs)
+    (λ c κs. search needs)
+    (λ c. search needs)
     returns-2)

@@ -1,25 +1,18 @@
--- `replay::coordinate_of` meets its contract. Assumes nothing.
 use borrow.Author.Needs.{needs}
 use mathlib.Core.Path.{sym, ap, _∙_}
 use Prim.Native.Nat.{ℕ, _-_}
 use native.Mathlib.Omega.{arith}
 use lib.IntN.{pos, _-ℤ_}
-use Rattle.laws.specs.Machine.{fit, read}
+use Rattle.laws.specs.general.Machine.{fit, read}
 use Rattle.replay.proofs.Signed.{plain, less, less-fits, ahead-of, none-below, none-above, behind-of}
 use Rattle.replay.proofs.coordinate_of.Statement.{statement}
 use Rattle.replay.proofs.coordinate_of.Tie as tie
-
-cast-result : tie.Need-cast-result
-cast-result c = search needs
 
 returns : tie.Need-returns
 returns c = let n = c .before .args .value in plain n (c .if1 .taken) ∙ sym (ahead-of n (c .if1 .taken))
 
 returns-2 : tie.Need-returns-2
 returns-2 c = let n = c .before .before .args .value in sym (none-below n (omega arith) (omega arith))
-
-cast-result-2 : tie.Need-cast-result-2
-cast-result-2 c = search needs
 
 sub-result : tie.Need-sub-result
 sub-result c = let m = c .before .before .before .args .value - 9223372036854775808 in fit (less m (omega arith)) (less-fits m (omega arith))
@@ -40,4 +33,12 @@ returns-5 c = let n = c .before .before .before .before .args .value in sym (non
 pub coordinate-of-spec : {M : Type 1} → statement M
 coordinate-of-spec =
     tie.close
-    (tie.spec cast-result returns returns-2 cast-result-2 sub-result returns-3 returns-4 returns-5)
+    (tie.spec
+    (λ c. search needs)
+    returns
+    returns-2
+    (λ c. search needs)
+    sub-result
+    returns-3
+    returns-4
+    returns-5)

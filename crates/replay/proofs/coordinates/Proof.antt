@@ -1,4 +1,4 @@
--- `replay::coordinates` meets its contract. The numbers from i on are left. Assumes nothing.
+-- The numbers from i on are left.
 use borrow.Author.Needs.{needs}
 use mathlib.Core.Path.{_≡_, refl, sym, _∙_}
 use mathlib.Core.List.{map}
@@ -9,7 +9,7 @@ use lib.Seq.{sets}
 use Rattle.replay.specs.Lists.{coordinateOf}
 use Rattle.replay.proofs.Entries.{store-more, store-end, store-full}
 use lib.IntN.{pos}
-use Rattle.laws.specs.Machine.{read}
+use Rattle.laws.specs.general.Machine.{read}
 use Rattle.replay.proofs.Signed.{coordinate-fits}
 use Rattle.replay.proofs.coordinates.Statement.{statement}
 use Rattle.replay.proofs.coordinates.Tie as tie
@@ -23,36 +23,12 @@ abbrev μ-loop : tie.MeasureT-loop
 loop-holds : tie.Need-loop-holds Inv-loop μ-loop
 loop-holds c = (refl, refl)
 
-same-length : tie.Need-same-length Inv-loop μ-loop
-same-length c = search needs
-
 returns : tie.Need-returns Inv-loop μ-loop
 returns c =
     let l = c .before .before .loop in
     let numbers = c .before .before .before .before .args .numbers .now in
     let h : length (map coordinateOf numbers) ≤ l .i = omega (arith, length-map numbers coordinateOf) in
     store-end (pos 0) (map coordinateOf numbers) (l .out) (l .i) h ∙ l .inv .1
-
-mul-coordinate-of : tie.Need-mul-coordinate-of Inv-loop μ-loop
-mul-coordinate-of c = search needs
-
-shared-slice-read-coordinate-of : tie.Need-shared-slice-read-coordinate-of Inv-loop μ-loop
-shared-slice-read-coordinate-of c = search needs
-
-coordinate-of-requires : tie.Need-coordinate-of-requires Inv-loop μ-loop
-coordinate-of-requires c κs = search needs
-
-mul-t9 : tie.Need-mul-t9 Inv-loop μ-loop
-mul-t9 c = search needs
-
-slice-set-from-out : tie.Need-slice-set-from-out Inv-loop μ-loop
-slice-set-from-out c = search needs
-
-add-i : tie.Need-add-i Inv-loop μ-loop
-add-i c = search needs
-
-loop-less : tie.Need-loop-less Inv-loop μ-loop
-loop-less c = search needs
 
 loop-again : tie.Need-loop-again Inv-loop μ-loop
 unfolding coordinateOf
@@ -62,9 +38,6 @@ loop-again c =
     let h : l .i < length (map coordinateOf numbers) = omega (arith, length-map numbers coordinateOf) in
     let e = read (c .coordinate-of .ensures) (coordinate-fits (getD numbers (l .i) 0)) ∙ sym (List·getD-map coordinateOf numbers (l .i) 0) in
     (search needs, store-more (pos 0) (map coordinateOf numbers) (l .out) (l .i) _ h e ∙ l .inv .1)
-
-same-length-2 : tie.Need-same-length-2 Inv-loop μ-loop
-same-length-2 c = search needs
 
 returns-2 : tie.Need-returns-2 Inv-loop μ-loop
 returns-2 c = let l = c .before .loop in store-full (pos 0) _ (l .out) (l .i) (c .loop-test .left) ∙ l .inv .1
@@ -76,15 +49,15 @@ coordinates-spec =
     Inv-loop
     μ-loop
     loop-holds
-    same-length
+    (λ c. search needs)
     returns
-    mul-coordinate-of
-    shared-slice-read-coordinate-of
-    coordinate-of-requires
-    mul-t9
-    slice-set-from-out
-    add-i
-    loop-less
+    (λ c. search needs)
+    (λ c. search needs)
+    (λ c κs. search needs)
+    (λ c. search needs)
+    (λ c. search needs)
+    (λ c. search needs)
+    (λ c. search needs)
     loop-again
-    same-length-2
+    (λ c. search needs)
     returns-2)

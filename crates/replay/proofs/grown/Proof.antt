@@ -1,4 +1,3 @@
--- `replay::grown` meets its contract. Assumes nothing.
 use borrow.Author.Needs.{needs}
 use mathlib.Core.Path.{sym, ap, _∙_}
 use native.Mathlib.Omega.{arith}
@@ -13,16 +12,15 @@ returns c = sym (grown-below _ _ (c .if1 .taken))
 returns-2 : tie.Need-returns-2
 returns-2 c = sym (grown-above _ _ (c .if2 .taken))
 
-wide-requires : tie.Need-wide-requires
-wide-requires c κs = search needs
-
-with-digit-requires : tie.Need-with-digit-requires
-with-digit-requires c κs = search needs
-
 returns-3 : tie.Need-returns-3
 returns-3 c =
     let a = c .before .before .before .before .args in
     c .with-digit .ensures ∙ ap (withDigit (a .value)) (c .before .wide .ensures .0) ∙ sym (grown-digit (a .value) (a .byte) (omega arith) (omega arith))
 
 pub grown-spec : {M : Type 1} → statement M
-grown-spec = tie.close (tie.spec returns returns-2 wide-requires with-digit-requires returns-3)
+grown-spec = tie.close (tie.spec
+    returns
+    returns-2
+    (λ c κs. search needs)
+    (λ c κs. search needs)
+    returns-3)

@@ -1,13 +1,9 @@
--- `replay::number` meets its contract. Assumes nothing.
 use borrow.Author.Needs.{needs}
 use mathlib.Core.Path.{sym}
 use Rattle.replay.specs.Lines.{number}
 use Rattle.replay.proofs.Told.{chosen, passed}
 use Rattle.replay.proofs.number.Statement.{statement}
 use Rattle.replay.proofs.number.Tie as tie
-
-add-result : tie.Need-add-result
-add-result c = search needs
 
 returns : tie.Need-returns
 unfolding number
@@ -18,4 +14,7 @@ unfolding number
 returns-2 c = sym (passed _ _ (c .if1 .left))
 
 pub number-spec : {M : Type 1} → statement M
-number-spec = tie.close (tie.spec add-result returns returns-2)
+number-spec = tie.close (tie.spec
+    (λ c. search needs)
+    returns
+    returns-2)

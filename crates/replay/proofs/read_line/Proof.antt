@@ -1,4 +1,3 @@
--- `replay::read_line` meets its contract. Assumes nothing.
 use borrow.Author.Needs.{needs}
 use mathlib.Core.Path.{refl, ap, _∙_}
 use Prim.Native.Nat.{_+_, _-_}
@@ -27,18 +26,6 @@ module _ (c : tie.After-slice-known2 Inv-loop μ-loop) where
 loop-holds : tie.Need-loop-holds Inv-loop μ-loop
 loop-holds c = left-none _ _ _
 
-shared-slice-read-byte : tie.Need-shared-slice-read-byte Inv-loop μ-loop
-shared-slice-read-byte c = search needs
-
-add-next : tie.Need-add-next Inv-loop μ-loop
-add-next c = search needs
-
-number-requires : tie.Need-number-requires Inv-loop μ-loop
-number-requires c κs = search needs
-
-store-requires : tie.Need-store-requires Inv-loop μ-loop
-store-requires c κs = search needs
-
 add-t17 : tie.Need-add-t17 Inv-loop μ-loop
 add-t17 c = omega (arith, c .before .before .before .before .before .before .before .before .loop .inv .few)
 
@@ -48,32 +35,14 @@ same-length c = read-long (ended c)
 returns : tie.Need-returns Inv-loop μ-loop
 returns c = let r = ended c in (r .stored, (r .counted, r .reached))
 
-number-requires-2 : tie.Need-number-requires-2 Inv-loop μ-loop
-number-requires-2 c κs = search needs
-
-store-requires-2 : tie.Need-store-requires-2 Inv-loop μ-loop
-store-requires-2 c κs = search needs
-
 add-count : tie.Need-add-count Inv-loop μ-loop
 add-count c = omega (arith, c .before .before .before .before .before .before .before .before .before .loop .inv .few)
-
-loop-less : tie.Need-loop-less Inv-loop μ-loop
-loop-less c = search needs
 
 loop-again : tie.Need-loop-again Inv-loop μ-loop
 loop-again c =
     let l = c .before .before .before .before .before .before .before .before .before .loop in
     left-as (c .before .before .store2 .ensures ∙ ap (set (l .numbers) (l .count)) (c .before .before .before .number2 .ensures)) refl refl
     (left-blank (l .inv) (c .before .before .before .before .before .before .before .before .loop-test .taken) (c .before .before .before .before .before .if2 .taken))
-
-minus-found-requires : tie.Need-minus-found-requires Inv-loop μ-loop
-minus-found-requires c κs = search needs
-
-grown-requires : tie.Need-grown-requires Inv-loop μ-loop
-grown-requires c κs = search needs
-
-loop-less-2 : tie.Need-loop-less-2 Inv-loop μ-loop
-loop-less-2 c = search needs
 
 loop-again-2 : tie.Need-loop-again-2 Inv-loop μ-loop
 loop-again-2 c =
@@ -95,21 +64,21 @@ read-line-spec =
     Inv-loop
     μ-loop
     loop-holds
-    shared-slice-read-byte
-    add-next
-    number-requires
-    store-requires
+    (λ c. search needs)
+    (λ c. search needs)
+    (λ c κs. search needs)
+    (λ c κs. search needs)
     add-t17
     same-length
     returns
-    number-requires-2
-    store-requires-2
+    (λ c κs. search needs)
+    (λ c κs. search needs)
     add-count
-    loop-less
+    (λ c. search needs)
     loop-again
-    minus-found-requires
-    grown-requires
-    loop-less-2
+    (λ c κs. search needs)
+    (λ c κs. search needs)
+    (λ c. search needs)
     loop-again-2
     same-length-2
     returns-2)

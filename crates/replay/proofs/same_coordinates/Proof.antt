@@ -1,4 +1,4 @@
--- `replay::same_coordinates` meets its contract. The first i entries are the same. Assumes nothing.
+-- The first i entries are the same.
 use borrow.Author.Needs.{needs}
 use Prim.Native.Nat.{ℕ, _-_, _≤_, _<_}
 use mathlib.Core.Path.{_≡_, sym, ap, _∙_}
@@ -27,21 +27,6 @@ returns c = no (λ e. c .if1 .taken (sym (length-map (c .before .before .args .n
 loop-holds : tie.Need-loop-holds Inv-loop μ-loop
 loop-holds c = (search needs, search needs, below-none _)
 
-mul-coordinate-of : tie.Need-mul-coordinate-of Inv-loop μ-loop
-mul-coordinate-of c = search needs
-
-shared-slice-read-coordinate-of : tie.Need-shared-slice-read-coordinate-of Inv-loop μ-loop
-shared-slice-read-coordinate-of c = search needs
-
-coordinate-of-requires : tie.Need-coordinate-of-requires Inv-loop μ-loop
-coordinate-of-requires c κs = search needs
-
-mul-if2 : tie.Need-mul-if2 Inv-loop μ-loop
-mul-if2 c = search needs
-
-shared-slice-copy-out-if2 : tie.Need-shared-slice-copy-out-if2 Inv-loop μ-loop
-shared-slice-copy-out-if2 c = search needs
-
 returns-2 : tie.Need-returns-2 Inv-loop μ-loop
 unfolding coordinateOf
 returns-2 c =
@@ -49,12 +34,6 @@ returns-2 c =
     let i = c .before .before .before .before .before .loop .i in
     no (λ e. c .if2 .taken (ap (ofZ w32)
     (c .before .before .coordinate-of .ensures ∙ sym (List·getD-map coordinateOf (a .numbers .now) i 0) ∙ same-at (pos 0) _ _ i e)))
-
-add-i : tie.Need-add-i Inv-loop μ-loop
-add-i c = search needs
-
-loop-less : tie.Need-loop-less Inv-loop μ-loop
-loop-less c = search needs
 
 loop-again : tie.Need-loop-again Inv-loop μ-loop
 loop-again c =
@@ -81,13 +60,13 @@ same-coordinates-spec =
     μ-loop
     returns
     loop-holds
-    mul-coordinate-of
-    shared-slice-read-coordinate-of
-    coordinate-of-requires
-    mul-if2
-    shared-slice-copy-out-if2
+    (λ c. search needs)
+    (λ c. search needs)
+    (λ c κs. search needs)
+    (λ c. search needs)
+    (λ c. search needs)
     returns-2
-    add-i
-    loop-less
+    (λ c. search needs)
+    (λ c. search needs)
     loop-again
     returns-3)

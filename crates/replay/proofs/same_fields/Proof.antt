@@ -1,19 +1,19 @@
--- `replay::same_fields` meets its contract. The first i numbers are fields. Assumes nothing.
+-- The first i numbers are fields.
 use borrow.Author.Needs.{needs}
 use mathlib.Core.Path.{_≡_, refl, sym, _∙_}
 use Prim.Native.Nat.{ℕ, _*_, _-_, _≤_, _<_}
 use native.Mathlib.Omega.{arith}
 use borrow.Author.Count.{below-none, below-more}
 use lib.ListN.{length, getD}
-use Rattle.laws.specs.Lists.{build-is, build-at}
-use Rattle.replay.specs.Lists.{fieldAt}
+use Rattle.laws.specs.general.Lists.{build-is, build-at}
+use Rattle.definitions.specs.Report.{fieldOf}
 use Rattle.replay.proofs.Told.{yes, no}
 use Rattle.replay.proofs.Entries.{same-at}
 use Rattle.replay.proofs.same_fields.Statement.{statement}
 use Rattle.replay.proofs.same_fields.Tie as tie
 
 abbrev Inv-loop : tie.InvT-loop
-Inv-loop numbers got i₀ i = (length got ≡ 4 * length numbers) × (i ≤ length numbers) × ((k : ℕ) → k < i → getD numbers k 0 ≡ fieldAt got (4 * k))
+Inv-loop numbers got i₀ i = (length got ≡ 4 * length numbers) × (i ≤ length numbers) × ((k : ℕ) → k < i → getD numbers k 0 ≡ fieldOf got 0 k)
 
 abbrev μ-loop : tie.MeasureT-loop
 μ-loop numbers got i₀ i = length numbers - i
@@ -27,33 +27,15 @@ returns-2 c = no (λ f. omega (arith, f .long, c .if2 .taken))
 loop-holds : tie.Need-loop-holds Inv-loop μ-loop
 loop-holds c = (omega arith, omega arith, below-none _)
 
-mul-if3 : tie.Need-mul-if3 Inv-loop μ-loop
-mul-if3 c = search needs
-
-shared-slice-read-if3 : tie.Need-shared-slice-read-if3 Inv-loop μ-loop
-shared-slice-read-if3 c = search needs
-
-mul-field-at : tie.Need-mul-field-at Inv-loop μ-loop
-mul-field-at c = search needs
-
-field-at-requires : tie.Need-field-at-requires Inv-loop μ-loop
-field-at-requires c κs = search needs
-
 returns-3 : tie.Need-returns-3 Inv-loop μ-loop
 returns-3 c =
     let a = c .before .before .before .before .before .before .before .before .before .args in
     let i = c .before .before .before .before .loop .i in
     no (λ h. c .if3 .taken (same-at 0 _ _ i (h .each)
-    ∙ build-at (length (a .numbers .now)) (λ (k : ℕ). fieldAt (a .got .now) (4 * k)) i 0 (omega arith) ∙ sym (c .before .field-at .ensures)))
-
-add-i : tie.Need-add-i Inv-loop μ-loop
-add-i c = search needs
-
-loop-less : tie.Need-loop-less Inv-loop μ-loop
-loop-less c = search needs
+    ∙ build-at (length (a .numbers .now)) (fieldOf (a .got .now) 0) i 0 (omega arith) ∙ sym (c .before .field .ensures)))
 
 loop-again : tie.Need-loop-again Inv-loop μ-loop
-loop-again c = (omega arith, omega arith, below-more _ _ (c .before .before .before .before .loop .inv .2) (c .if3 .left ∙ c .before .field-at .ensures))
+loop-again c = (omega arith, omega arith, below-more _ _ (c .before .before .before .before .loop .inv .2) (c .if3 .left ∙ c .before .field .ensures))
 
 returns-4 : tie.Need-returns-4 Inv-loop μ-loop
 returns-4 c =
@@ -61,7 +43,7 @@ returns-4 c =
     let a = c .before .before .before .before .before .before .args in
     yes (record {
       long = l .inv .0;
-      each = build-is (length (a .numbers .now)) (λ (k : ℕ). fieldAt (a .got .now) (4 * k)) (a .numbers .now) 0 refl (λ k h. l .inv .2 k (omega arith));
+      each = build-is (length (a .numbers .now)) (fieldOf (a .got .now) 0) (a .numbers .now) 0 refl (λ k h. l .inv .2 k (omega arith));
     })
 
 pub same-fields-spec : {M : Type 1} → statement M
@@ -73,12 +55,11 @@ same-fields-spec =
     returns
     returns-2
     loop-holds
-    mul-if3
-    shared-slice-read-if3
-    mul-field-at
-    field-at-requires
+    (λ c. search needs)
+    (λ c. search needs)
+    (λ c κs. search needs)
     returns-3
-    add-i
-    loop-less
+    (λ c. search needs)
+    (λ c. search needs)
     loop-again
     returns-4)

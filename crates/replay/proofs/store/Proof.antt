@@ -1,24 +1,16 @@
--- `replay::store` meets its contract. Assumes nothing.
 use borrow.Author.Needs.{needs}
 use mathlib.Core.Path.{sym}
 use lib.Seq.{set-out}
 use Rattle.replay.proofs.store.Statement.{statement}
 use Rattle.replay.proofs.store.Tie as tie
 
-mul-numbers : tie.Need-mul-numbers
-mul-numbers c = search needs
-
-slice-write-numbers : tie.Need-slice-write-numbers
-slice-write-numbers c = search needs
-
-same-length : tie.Need-same-length
-same-length c = search needs
-
-returns : tie.Need-returns
-returns c = search needs
-
 returns-2 : tie.Need-returns-2
 returns-2 c = sym (set-out (c .before .args .numbers .now) _ _ (c .if1 .left))
 
 pub store-spec : {M : Type 1} → statement M
-store-spec = tie.close (tie.spec mul-numbers slice-write-numbers same-length returns returns-2)
+store-spec = tie.close (tie.spec
+    (λ c. search needs)
+    (λ c. search needs)
+    (λ c. search needs)
+    (λ c. search needs)
+    returns-2)

@@ -1,4 +1,3 @@
--- `replay::with_digit` meets its contract. Assumes nothing.
 use borrow.Author.Needs.{needs}
 use mathlib.Core.Path.{sym}
 use native.Mathlib.Omega.{arith}
@@ -9,20 +8,17 @@ use Rattle.replay.proofs.with_digit.Tie as tie
 returns : tie.Need-returns
 returns c = let a = c .before .args in sym (digit-past (a .value) (a .digit) (omega arith))
 
-mul-tens : tie.Need-mul-tens
-mul-tens c = search needs
-
-sub-if2 : tie.Need-sub-if2
-sub-if2 c = search needs
-
 returns-2 : tie.Need-returns-2
 returns-2 c = let a = c .before .before .args in sym (digit-past (a .value) (a .digit) (omega arith))
-
-add-result : tie.Need-add-result
-add-result c = search needs
 
 returns-3 : tie.Need-returns-3
 returns-3 c = let a = c .before .before .args in sym (digit-within (a .value) (a .digit) (omega arith))
 
 pub with-digit-spec : {M : Type 1} → statement M
-with-digit-spec = tie.close (tie.spec returns mul-tens sub-if2 returns-2 add-result returns-3)
+with-digit-spec = tie.close (tie.spec
+    returns
+    (λ c. search needs)
+    (λ c. search needs)
+    returns-2
+    (λ c. search needs)
+    returns-3)

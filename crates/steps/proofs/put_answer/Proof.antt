@@ -1,4 +1,3 @@
--- `steps::put_answer` meets its contract. Assumes nothing.
 use mathlib.Core.Path.{_≡_, sym, ap, _∙_}
 use mathlib.Core.Bool.{cond}
 use borrow.Author.Needs.{needs}
@@ -11,7 +10,7 @@ use Rattle.definitions.specs.Report.{Terms, verdicts}
 use Rattle.mtb_align.specs.Search.{optionsIn}
 use Rattle.mtb_align.specs.Survey.{Reported, termsIn, reportAnswer}
 use Rattle.steps.specs.Text.{refusalText, inputStack, inputTerms}
-use Rattle.steps.proofs.Stacked.{Call, answered, turned-down, summary-text, left, input-stack, few-needed, text-none}
+use Rattle.steps.proofs.Called.{Call, answered, turned-down, summary-text, left, input-stack, few-needed, text-none}
 use Rattle.steps.proofs.Puts.{put-as}
 use Rattle.steps.proofs.put_answer.Statement.{statement}
 use Rattle.steps.proofs.put_answer.Tie as tie
@@ -21,7 +20,8 @@ called : (c : tie.After-report) →
     let a = c .before .before .before .before .before .before .before .before .before .before .before .before .before .args in
     let o = c .before .before .before .before .before .before .before .options .result in
     let t = c .before .before .before .before .before .before .terms .result in
-    Call (length (a .widths .now)) (a .samples .now) (a .widths .now) (a .heights .now) (o .percentile) (o .bits) (length (a .shifts .now)) (length (a .verdicts .now)) (t .reach) (optionsIn o) (termsIn t)
+    Call (length (a .widths .now)) (a .samples .now) (a .widths .now) (a .heights .now) (o .percentile) (o .bits) (length (a .shifts .now)) (length (a .verdicts .now)) (t .reach)
+    (optionsIn o) (termsIn t)
 called c =
     let p = c .before .before .before .before .before .before .before .before .before .before .before .before .before .pre in
     let o = c .before .before .before .before .before .before .before .options .ensures in
@@ -51,104 +51,64 @@ lists c =
     let old = eqb (length (a .widths .now)) 0 in
     let f = c .report .ensures in
     let s = input-stack (called c) in (
-      f .1 ∙ left (called c) _ _ ∙ ap (λ (x : Stack). cond old (a .shifts .now) (listed (shifts x))) s,
-      f .2 ∙ left (called c) _ _ ∙ (λ i. cond old (a .verdicts .now) (verdicts (s i) (called c .terms i))),
+      f .written .placed ∙ left (called c) _ _ ∙ ap (λ (x : Stack). cond old (a .shifts .now) (listed (shifts x))) s,
+      f .written .judged ∙ left (called c) _ _ ∙ (λ i. cond old (a .verdicts .now) (verdicts (s i) (called c .terms i))),
     )
-
-options-requires : tie.Need-options-requires
-options-requires c κs = search needs
-
-terms-requires : tie.Need-terms-requires
-terms-requires c κs = search needs
-
-slice-aggregate-report : tie.Need-slice-aggregate-report
-slice-aggregate-report c = search needs
-
-slice-aggregate-report-2 : tie.Need-slice-aggregate-report-2
-slice-aggregate-report-2 c = search needs
-
-slice-aggregate-report-3 : tie.Need-slice-aggregate-report-3
-slice-aggregate-report-3 c = search needs
-
-report-requires : tie.Need-report-requires
-report-requires c κs = search needs
-
-enum-known-answer : tie.Need-enum-known-answer
-enum-known-answer c = search needs
-
-slice-aggregate-put-summary : tie.Need-slice-aggregate-put-summary
-slice-aggregate-put-summary c = search needs
 
 put-summary-requires : tie.Need-put-summary-requires
 put-summary-requires c κs =
     let r = c .before .before .before .before .before .before .before .before .before .before .before .before .before in
     let p = r .before .before .before .before .before .before .before .before .before .before .before .before .before .pre in
-    let e = answered (called r) (ap reportAnswer (sym (c .before .before .before .before .before .answer .given .1)) ∙ r .report .ensures .0) in
-    (omega (arith, ap (λ (x : Reported). x .records) (e .1), few-needed (called r) (e .0)), omega (arith, r .report .kept .1 .1 .1 .1 .1 .1 .0, p .1 .1), omega (arith, r .report .kept .1 .1 .1 .1 .1 .1 .1 .0, p .1 .2))
-
-enum-known-answer-2 : tie.Need-enum-known-answer-2
-enum-known-answer-2 c = search needs
-
-number-requires : tie.Need-number-requires
-number-requires c κs = search needs
-
-put-refusal-requires : tie.Need-put-refusal-requires
-put-refusal-requires c κs = search needs
-
-same-length : tie.Need-same-length
-same-length c = search needs
-
-same-length-2 : tie.Need-same-length-2
-same-length-2 c = search needs
-
-same-length-3 : tie.Need-same-length-3
-same-length-3 c = search needs
+    let e = answered (called r) (ap reportAnswer (sym (c .before .before .before .before .before .answer .given .1)) ∙ r .report .ensures .written .answered) in (
+      omega (arith, ap (λ (x : Reported). x .records) (e .1), few-needed (called r) (e .0)),
+      omega (arith, r .report .kept .1 .1 .1 .1 .1 .1 .0, p .1 .1),
+      omega
+          (arith, r .report .kept .1 .1 .1 .1 .1 .1 .1 .0, p .1 .2),
+    )
 
 returns : tie.Need-returns
 returns c =
     let r = c .before .before .before .before .before .before .before .before .before .before .before .before .before .before .before .before in
     let a = r .before .before .before .before .before .before .before .before .before .before .before .before .before .args in
     let f = r .report .ensures in
-    let e = answered (called r) (ap reportAnswer (sym (c .before .before .before .before .before .before .before .before .answer .given .1)) ∙ f .0) in
-    (put-as (c .before .before .put-summary .ensures) (summary-text (called r) (e .0) (a .shifts .now) (a .verdicts .now) (replicate 1260 0) (ap (λ (x : Reported). x .crop) (e .1)) (ap (λ (x : Reported). x .records) (e .1)) (f .1) (f .2) (f .3)), lists r)
-
-same-length-4 : tie.Need-same-length-4
-same-length-4 c = search needs
-
-same-length-5 : tie.Need-same-length-5
-same-length-5 c = search needs
-
-same-length-6 : tie.Need-same-length-6
-same-length-6 c = search needs
+    let e = answered (called r) (ap reportAnswer (sym (c .before .before .before .before .before .before .before .before .answer .given .1)) ∙ f .written .answered) in (
+      put-as (c .before .before .put-summary .ensures)
+          (summary-text (called r) (e .0) (a .shifts .now) (a .verdicts .now) (replicate 1260 0) (ap (λ (x : Reported). x .crop) (e .1)) (ap (λ (x : Reported). x .records) (e .1))
+          (f .written .placed) (f .written .judged) (f .written .recorded)),
+      lists r,
+    )
 
 returns-2 : tie.Need-returns-2
 returns-2 c =
     let r = c .before .before .before .before .before .before .before .before .before .before .before .before .before .before in
     let a = r .before .before .before .before .before .before .before .before .before .before .before .before .before .args in
-    let e = turned-down (called r) _ (ap reportAnswer (sym (c .before .before .before .before .before .before .answer2 .given .1)) ∙ r .report .ensures .0) in
-    (put-as (c .before .before .put-refusal .ensures) (ap refusalText (c .before .before .before .number .ensures ∙ e .1) ∙ text-none (a .samples .now) (length (a .widths .now)) (called r .whole) (called r .most) (e .0)), lists r)
+    let e = turned-down (called r) _ (ap reportAnswer (sym (c .before .before .before .before .before .before .answer2 .given .1)) ∙ r .report .ensures .written .answered) in (
+      put-as (c .before .before .put-refusal .ensures)
+          (ap refusalText (c .before .before .before .number .ensures ∙ e .1) ∙ text-none (a .samples .now) (length (a .widths .now)) (called r .whole) (called r .most) (e .0)),
+      lists r,
+    )
 
 pub put-answer-spec : {M : Type 1} → statement M
 put-answer-spec =
     tie.close
     (tie.spec
-    options-requires
-    terms-requires
-    slice-aggregate-report
-    slice-aggregate-report-2
-    slice-aggregate-report-3
-    report-requires
-    enum-known-answer
-    slice-aggregate-put-summary
+    (λ c κs. search needs)
+    (λ c κs. search needs)
+    (λ c. search needs)
+    (λ c. search needs)
+    (λ c. search needs)
+    (λ c κs. search needs)
+    (λ c. search needs)
+    (λ c. search needs)
     put-summary-requires
-    enum-known-answer-2
-    number-requires
-    put-refusal-requires
-    same-length
-    same-length-2
-    same-length-3
+    (λ c. search needs)
+    (λ c κs. search needs)
+    (λ c κs. search needs)
+    (λ c. search needs)
+    (λ c. search needs)
+    (λ c. search needs)
     returns
-    same-length-4
-    same-length-5
-    same-length-6
+    (λ c. search needs)
+    (λ c. search needs)
+    (λ c. search needs)
     returns-2)

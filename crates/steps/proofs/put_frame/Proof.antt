@@ -1,4 +1,3 @@
--- `steps::put_frame` meets its contract. Assumes nothing.
 use Prim.Native.Nat.{_+_, _*_}
 use borrow.Author.Needs.{needs}
 use lib.IntN.{pos}
@@ -11,42 +10,6 @@ use Rattle.steps.specs.Inner.{frameTextIn}
 use Rattle.steps.proofs.Puts.{put-then, put-as}
 use Rattle.steps.proofs.put_frame.Statement.{statement}
 use Rattle.steps.proofs.put_frame.Tie as tie
-
-number-of-requires : tie.Need-number-of-requires
-number-of-requires c κs = search needs
-
-mul-put-frame-line : tie.Need-mul-put-frame-line
-mul-put-frame-line c = search needs
-
-mul-put-frame-line-2 : tie.Need-mul-put-frame-line-2
-mul-put-frame-line-2 c = search needs
-
-shared-slice-copy-out-put-frame-line : tie.Need-shared-slice-copy-out-put-frame-line
-shared-slice-copy-out-put-frame-line c = search needs
-
-mul-put-frame-line-3 : tie.Need-mul-put-frame-line-3
-mul-put-frame-line-3 c = search needs
-
-add-put-frame-line : tie.Need-add-put-frame-line
-add-put-frame-line c = search needs
-
-mul-put-frame-line-4 : tie.Need-mul-put-frame-line-4
-mul-put-frame-line-4 c = search needs
-
-shared-slice-copy-out-put-frame-line-2 : tie.Need-shared-slice-copy-out-put-frame-line-2
-shared-slice-copy-out-put-frame-line-2 c = search needs
-
-shared-slice-read-put-frame-line : tie.Need-shared-slice-read-put-frame-line
-shared-slice-read-put-frame-line c = search needs
-
-put-frame-line-requires : tie.Need-put-frame-line-requires
-put-frame-line-requires c κs = search needs
-
-put-records-requires : tie.Need-put-records-requires
-put-records-requires c κs = search needs
-
-same-length : tie.Need-same-length
-same-length c = search needs
 
 returns : tie.Need-returns
 unfolding frameTextIn
@@ -64,16 +27,16 @@ pub put-frame-spec : {M : Type 1} → statement M
 put-frame-spec =
     tie.close
     (tie.spec
-    number-of-requires
-    mul-put-frame-line
-    mul-put-frame-line-2
-    shared-slice-copy-out-put-frame-line
-    mul-put-frame-line-3
-    add-put-frame-line
-    mul-put-frame-line-4
-    shared-slice-copy-out-put-frame-line-2
-    shared-slice-read-put-frame-line
-    put-frame-line-requires
-    put-records-requires
-    same-length
+    (λ c κs. search needs)
+    (λ c. search needs)
+    (λ c. search needs)
+    (λ c. search needs)
+    (λ c. search needs)
+    (λ c. search needs)
+    (λ c. search needs)
+    (λ c. search needs)
+    (λ c. search needs)
+    (λ c κs. search needs)
+    (λ c κs. search needs)
+    (λ c. search needs)
     returns)

@@ -1,4 +1,3 @@
--- `steps::put_frame_line` meets its contract. Assumes nothing.
 use mathlib.Core.Path.{ap}
 use mathlib.Core.List.{_++_}
 use lib.IntN.{ℤ}
@@ -9,34 +8,17 @@ use Rattle.steps.proofs.Puts.{put-then, put-as}
 use Rattle.steps.proofs.put_frame_line.Statement.{statement}
 use Rattle.steps.proofs.put_frame_line.Tie as tie
 
-put-number-requires : tie.Need-put-number-requires
-put-number-requires c κs = search needs
-
-put-coordinate-requires : tie.Need-put-coordinate-requires
-put-coordinate-requires c κs = search needs
-
-put-coordinate-requires-2 : tie.Need-put-coordinate-requires-2
-put-coordinate-requires-2 c κs = search needs
-
-put-verdict-requires : tie.Need-put-verdict-requires
-put-verdict-requires c κs = search needs
-
-put-next-requires : tie.Need-put-next-requires
-put-next-requires c κs = search needs
-
-put-byte-requires : tie.Need-put-byte-requires
-put-byte-requires c κs = search needs
-
-same-length : tie.Need-same-length
-same-length c = search needs
-
 returns : tie.Need-returns
 unfolding ascii line frameLine
 returns c =
-    let s = c .before .before .before .before .before .before .before .before .before .before .before .before .before .before .before .before .before .before .before .before .before .before .before .before .before in
-    put-then (c .before .before .before .before .before .before .before .before .before .before .before .before .before .before .before .before .before .before .before .before .before .before .put-number .ensures)
-    (put-then (put-as (c .before .before .before .before .before .before .before .before .before .before .before .before .before .before .before .before .before .before .put-coordinate .ensures) (ap (λ (z : ℤ). ascii " " ++ integer z) (toZ-ofZ (s .fits .x))))
-    (put-then (put-as (c .before .before .before .before .before .before .before .before .before .before .before .before .before .before .put-coordinate2 .ensures) (ap (λ (z : ℤ). ascii " " ++ integer z) (toZ-ofZ (s .fits .y))))
+    let s = c .before .before .before .before .before .before .before .before .before .before .before .before .before .before .before .before .before .before .before .before .before .before
+    .before .before .before in
+    put-then (c .before .before .before .before .before .before .before .before .before .before .before .before .before .before .before .before .before .before .before .before .before
+    .before .put-number .ensures)
+    (put-then (put-as (c .before .before .before .before .before .before .before .before .before .before .before .before .before .before .before .before .before .before .put-coordinate
+    .ensures) (ap (λ (z : ℤ). ascii " " ++ integer z) (toZ-ofZ (s .fits .x))))
+    (put-then (put-as (c .before .before .before .before .before .before .before .before .before .before .before .before .before .before .put-coordinate2 .ensures)
+    (ap (λ (z : ℤ). ascii " " ++ integer z) (toZ-ofZ (s .fits .y))))
     (put-then (c .before .before .before .before .before .before .before .before .before .before .put-verdict .ensures)
     (put-then (c .before .before .before .before .before .before .put-next .ensures)
     (c .before .before .put-byte .ensures)))))
@@ -45,11 +27,11 @@ pub put-frame-line-spec : {M : Type 1} → statement M
 put-frame-line-spec =
     tie.close
     (tie.spec
-    put-number-requires
-    put-coordinate-requires
-    put-coordinate-requires-2
-    put-verdict-requires
-    put-next-requires
-    put-byte-requires
-    same-length
+    (λ c κs. search needs)
+    (λ c κs. search needs)
+    (λ c κs. search needs)
+    (λ c κs. search needs)
+    (λ c κs. search needs)
+    (λ c κs. search needs)
+    (λ c. search needs)
     returns)

@@ -1,11 +1,10 @@
--- `steps::put_frames` meets its contract. Assumes nothing.
 use mathlib.Core.Path.{_≡_, sym, ap}
 use mathlib.Core.List.{List}
 use Prim.Native.Nat.{ℕ, _-_, _≤_}
 use borrow.Author.Needs.{needs}
 use native.Mathlib.Omega.{arith}
 use Rattle.definitions.specs.Build.{joined}
-use Rattle.laws.specs.Lists.{joined-none, joined-more}
+use Rattle.laws.specs.general.Lists.{joined-none, joined-more}
 use Rattle.steps.specs.Inner.{Put, frameTextIn}
 use Rattle.steps.proofs.Puts.{put-none, put-then, put-as, put-within, put-long}
 use Rattle.steps.proofs.put_frames.Statement.{statement}
@@ -25,12 +24,6 @@ put-frame-requires c κs =
     let s = c .before .before .before .before .before .before .pre in
     let h = c .before .loop-test .taken in
     (put-within (c .before .before .loop .inv .1), s .1, omega (arith, h, s .2), omega (arith, h, s .3))
-
-add-k : tie.Need-add-k Inv-loop μ-loop
-add-k c = search needs
-
-loop-less : tie.Need-loop-less Inv-loop μ-loop
-loop-less c = search needs
 
 loop-again : tie.Need-loop-again Inv-loop μ-loop
 loop-again c =
@@ -57,8 +50,8 @@ put-frames-spec =
     μ-loop
     loop-holds
     put-frame-requires
-    add-k
-    loop-less
+    (λ c. search needs)
+    (λ c. search needs)
     loop-again
     same-length
     returns)

@@ -1,4 +1,3 @@
--- `steps::put_verdict` meets its contract. Assumes nothing.
 use mathlib.Core.Path.{_≡_, refl, sym, ap}
 use mathlib.Core.List.{List, _++_}
 use Prim.Native.Nat.{ℕ, zero, suc}
@@ -16,75 +15,40 @@ otherwise (suc zero) a b c = absurd (b refl)
 otherwise (suc (suc zero)) a b c = absurd (c refl)
 otherwise (suc (suc (suc v))) a b c = refl
 
-slice-aggregate-put-bytes : tie.Need-slice-aggregate-put-bytes
-slice-aggregate-put-bytes c = search needs
-
-put-bytes-requires : tie.Need-put-bytes-requires
-put-bytes-requires c κs = search needs
-
-slice-aggregate-put-bytes-2 : tie.Need-slice-aggregate-put-bytes-2
-slice-aggregate-put-bytes-2 c = search needs
-
-put-bytes-requires-2 : tie.Need-put-bytes-requires-2
-put-bytes-requires-2 c κs = search needs
-
-slice-aggregate-put-bytes-3 : tie.Need-slice-aggregate-put-bytes-3
-slice-aggregate-put-bytes-3 c = search needs
-
-put-bytes-requires-3 : tie.Need-put-bytes-requires-3
-put-bytes-requires-3 c κs = search needs
-
-slice-aggregate-put-bytes-4 : tie.Need-slice-aggregate-put-bytes-4
-slice-aggregate-put-bytes-4 c = search needs
-
-put-bytes-requires-4 : tie.Need-put-bytes-requires-4
-put-bytes-requires-4 c κs = search needs
-
-same-length : tie.Need-same-length
-same-length c = search needs
-
 returns : tie.Need-returns
 unfolding ascii verdictWord
 returns c = put-as (c .before .before .put-bytes .ensures) (ap (λ (v : ℕ). ascii " " ++ verdictWord v) (sym (c .before .before .before .before .before .match .keys1)))
-
-same-length-2 : tie.Need-same-length-2
-same-length-2 c = search needs
 
 returns-2 : tie.Need-returns-2
 unfolding ascii verdictWord
 returns-2 c = put-as (c .before .before .put-bytes2 .ensures) (ap (λ (v : ℕ). ascii " " ++ verdictWord v) (sym (c .before .before .before .before .before .match .keys2)))
 
-same-length-3 : tie.Need-same-length-3
-same-length-3 c = search needs
-
 returns-3 : tie.Need-returns-3
 unfolding ascii verdictWord
 returns-3 c = put-as (c .before .before .put-bytes3 .ensures) (ap (λ (v : ℕ). ascii " " ++ verdictWord v) (sym (c .before .before .before .before .before .match .keys3)))
 
-same-length-4 : tie.Need-same-length-4
-same-length-4 c = search needs
-
 returns-4 : tie.Need-returns-4
 unfolding ascii verdictWord
-returns-4 c = let r = c .before .before .before .before .before .match .rest in put-as (c .before .before .put-bytes4 .ensures) (ap (λ (l : List ℕ). ascii " " ++ l) (otherwise _ (r .0 .0 .1) (r .0 .1) (r .1)))
+returns-4 c = let r = c .before .before .before .before .before .match .rest in put-as (c .before .before .put-bytes4 .ensures)
+    (ap (λ (l : List ℕ). ascii " " ++ l) (otherwise _ (r .0 .0 .1) (r .0 .1) (r .1)))
 
 pub put-verdict-spec : {M : Type 1} → statement M
 put-verdict-spec =
     tie.close
     (tie.spec
-    slice-aggregate-put-bytes
-    put-bytes-requires
-    slice-aggregate-put-bytes-2
-    put-bytes-requires-2
-    slice-aggregate-put-bytes-3
-    put-bytes-requires-3
-    slice-aggregate-put-bytes-4
-    put-bytes-requires-4
-    same-length
+    (λ c. search needs)
+    (λ c κs. search needs)
+    (λ c. search needs)
+    (λ c κs. search needs)
+    (λ c. search needs)
+    (λ c κs. search needs)
+    (λ c. search needs)
+    (λ c κs. search needs)
+    (λ c. search needs)
     returns
-    same-length-2
+    (λ c. search needs)
     returns-2
-    same-length-3
+    (λ c. search needs)
     returns-3
-    same-length-4
+    (λ c. search needs)
     returns-4)

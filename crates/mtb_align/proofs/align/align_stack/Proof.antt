@@ -1,63 +1,94 @@
--- `mtb_align::align::align_stack` meets its contract. Assumes nothing.
-use mathlib.Core.Path.{_≡_, sym, ap, _∙_}
+use mathlib.Core.Path.{_≡_, refl, sym, ap, _∙_}
 use borrow.Author.Needs.{needs}
 use native.Mathlib.Omega.{arith}
 use lib.ListN.{length}
-use Rattle.definitions.specs.Align.{stackOf}
-use Rattle.definitions.specs.Refusals.{accepted, answer, stackChecks}
-use Rattle.laws.specs.Checks.{refuses, accepts}
-use Rattle.laws.specs.ChecksStack.{StackInOrder, stack-in-order, scratch-free, scratch-kept}
-use Rattle.mtb_align.specs.Answers.{outcome}
+use Rattle.definitions.specs.Align.{stackOf, stackBytes, stackWords}
+use Rattle.definitions.specs.Refusals.{accepted, answer}
+use Rattle.laws.specs.checks.Checks.{refuses, accepts}
+use Rattle.laws.specs.checks.ChecksStack.{StackInOrder, stack-in-order}
+use Rattle.laws.specs.search.Free.{scratch-free, scratch-kept}
+use Rattle.mtb_align.specs.Answers.{outcome, refusal}
+use Rattle.mtb_align.specs.Asked.{StackAsked, stackAsked, checksOfStack}
+use Rattle.mtb_align.specs.Search.{optionsIn}
 use Rattle.mtb_align.proofs.Walked.{ready, whole}
 use Rattle.mtb_align.proofs.align.align_stack.Statement.{statement}
 use Rattle.mtb_align.proofs.align.align_stack.Tie as tie
 
+abbrev asked : tie.Start → StackAsked
+asked s =
+    let a = s .args in
+    record {
+      widths = a .widths .now;
+      heights = a .heights .now;
+      samples = a .samples .now;
+      reference = a .reference;
+      percentile = a .options .percentile;
+      options = optionsIn (a .options);
+      shifts = length (a .shifts .now);
+      bytes = length (a .bytes .now);
+      words = length (a .words .now);
+    }
+
 -- past the checks
-passes : (c : tie.After-enum-told)
-    → let a = c .before .before .before .before .before .before .before .before .args in
-    accepted (tt {0}) ≡ answer (stackChecks (a .widths .now) (a .heights .now) (a .options .percentile) (a .reference) (a .options .bits) (length (a .samples .now)) (length (a .shifts .now)) (length (a .bytes .now)) (length (a .words .now))) tt
+passes : (c : tie.After-enum-told) → accepted (tt {0}) ≡ answer (checksOfStack (asked (c .before .before .before .before .before .before .before .before))) tt
 passes c = ap outcome (sym (c .enum-told .given .1)) ∙ c .before .before .stack-fits .ensures
 
 held : (c : tie.After-enum-told)
-    → let a = c .before .before .before .before .before .before .before .before .args in
-    StackInOrder (a .widths .now) (a .heights .now) (a .options .percentile) (a .reference) (a .options .bits) (length (a .samples .now)) (length (a .shifts .now)) (length (a .bytes .now)) (length (a .words .now))
-held c = stack-in-order _ _ _ _ _ _ _ _ _ (passes c)
+    → let a = asked (c .before .before .before .before .before .before .before .before) in
+    StackInOrder (stackAsked a) (length (a .heights)) (a .shifts) (a .bytes) (a .words)
+held c =
+    let a = asked (c .before .before .before .before .before .before .before .before) in
+    stack-in-order (a .widths) (a .heights) (a .samples) (a .reference) (a .percentile) (a .options) _ _ _ (passes c)
 
-enum-told : tie.Need-enum-told
-enum-told c = search needs
+shared-slice-read-t18 : tie.Need-shared-slice-read-t18
+unfolding stackOf
+shared-slice-read-t18 c = omega (arith, held (c .before) .small .reference)
 
-shared-slice-read-width : tie.Need-shared-slice-read-width
-shared-slice-read-width c = omega (arith, held (c .before) .frames .among)
-
-shared-slice-read-height : tie.Need-shared-slice-read-height
-shared-slice-read-height c = let f = held (c .before .before) .frames in omega (arith, f .among, f .same)
+shared-slice-read-t20 : tie.Need-shared-slice-read-t20
+unfolding stackOf
+shared-slice-read-t20 c = let q = held (c .before .before) in omega (arith, q .small .reference, q .same)
 
 walk-requires : tie.Need-walk-requires
-walk-requires c κs = let q = held (c .before .before .before .before .before) in (q .frames .among, ready q)
+unfolding stackOf
+walk-requires c κs = let q = held (c .before .before .before .before .before) in (ready _ _ q, omega (arith, q .list))
 
 returns : tie.Need-returns
 unfolding stackOf
 returns c =
     let w = c .before .before .before .before .before in
     let d = w .before .before .before .before .before .before in
-    let a = d .before .before .before .before .before .before .before .before .args in
+    let a = asked (d .before .before .before .before .before .before .before .before) in
+    let l = checksOfStack a in
+    let stack = stackAsked a in
     let e = passes d in
     let f = w .walk .ensures in
-    (e, (accepts _ _ (a .shifts .now) e (whole _ _ _ _ _ (a .options) (a .shifts .now) (held d .list) (f .0)) .1, (scratch-free _ _ _ _ e (f .1 .0), scratch-free _ _ _ _ e (f .1 .1))))
+    record {
+      answered = e;
+      placed = accepts l _ _ e (whole stack _ (held d .list) (f .0)) .1;
+      pixels = scratch-free l (stackBytes stack) e (f .1 .0);
+      maps = scratch-free l (stackWords stack) e (f .1 .1);
+    }
 
 returns-2 : tie.Need-returns-2
 returns-2 c =
-    let e = ap outcome (sym (c .before .error .given .1)) ∙ c .before .before .before .stack-fits .ensures in
-    (e, (refuses _ _ _ e .1, (scratch-kept _ _ _ e, scratch-kept _ _ _ e)))
+    let a = asked (c .before .before .before .before .before .before .before .before .before) in
+    let l = checksOfStack a in
+    let e : refusal (c .before .error .given .0 .0) ≡ answer l (tt {0}) = ap outcome (sym (c .before .error .given .1)) ∙ c .before .before .before .stack-fits .ensures in
+    record {
+      answered = e;
+      placed = refuses l _ _ e .1;
+      pixels = scratch-kept l (stackBytes (stackAsked a)) e refl;
+      maps = scratch-kept l (stackWords (stackAsked a)) e refl;
+    }
 
 pub align-stack-spec : {M : Type 1} → statement M
 align-stack-spec =
     tie.close
     (tie.spec
     (λ c κs. search needs)
-    enum-told
-    shared-slice-read-width
-    shared-slice-read-height
+    (λ c. search needs)
+    shared-slice-read-t18
+    shared-slice-read-t20
     walk-requires
     (λ c. search needs)
     (λ c. search needs)

@@ -1,4 +1,3 @@
--- `mtb_align::align::better` meets its contract. Assumes nothing.
 use borrow.Author.Tests.{lt-ltb, le-ltb}
 use Rattle.mtb_align.proofs.align.better.Statement.{statement}
 use Rattle.mtb_align.proofs.align.better.Tie as tie

@@ -1,10 +1,9 @@
--- `mtb_align::align::refine` meets its contract. The best of the first i shifts is known, with its cost. Assumes nothing.
-use mathlib.Core.Path.{_≡_, refl, sym, ap, _∙_}
+-- The best of the first i shifts is known, with its cost.
+use mathlib.Core.Path.{_≡_, refl, ap}
 use Prim.Native.Nat.{ℕ, _-_, _≤_}
 use borrow.Author.Needs.{needs}
 use native.Mathlib.Omega.{arith}
-use Rattle.laws.specs.Least.{tried-nine}
-use Rattle.laws.specs.Steps.{within-wider}
+use Rattle.laws.specs.search.StepBounds.{within-wider}
 use Rattle.definitions.specs.Difference.{Counts}
 use Rattle.mtb_align.specs.Answers.{shiftIn}
 use Rattle.mtb_align.specs.Search.{costIn}
@@ -22,18 +21,18 @@ Inv-loop words width height around best₀ made₀ i₀ best made i = (1 ≤ i) 
 abbrev μ-loop : tie.MeasureT-loop
 μ-loop words width height around best₀ made₀ i₀ best made i = 9 - i
 
-added-requires : tie.Need-added-requires Inv-loop μ-loop
-added-requires c κs = (within-wider (omega arith) (c .before .before .pre .1), within-wider (omega arith) (candidate-within 0))
+summed-requires : tie.Need-summed-requires Inv-loop μ-loop
+summed-requires c κs = (within-wider (omega arith) (c .before .before .pre .1), within-wider (omega arith) (candidate-within 0))
 
 counts-at-requires : tie.Need-counts-at-requires Inv-loop μ-loop
 counts-at-requires c κs = let p = c .before .before .before .pre in p .0
 
 loop-holds : tie.Need-loop-holds Inv-loop μ-loop
 unfolding costIn
-loop-holds c = (omega arith, omega arith, refl, first _ _ (c .before .added .ensures) (ap errorOf (c .counts-at .ensures)))
+loop-holds c = (omega arith, omega arith, refl, first _ _ (c .before .summed .ensures) (ap errorOf (c .counts-at .ensures)))
 
-added-requires-2 : tie.Need-added-requires-2 Inv-loop μ-loop
-added-requires-2 c κs = (within-wider (omega arith) (c .before .before .before .before .before .before .before .pre .1), within-wider (omega arith) (candidate-within (c .before .before .loop .i)))
+summed-requires-2 : tie.Need-summed-requires-2 Inv-loop μ-loop
+summed-requires-2 c κs = (within-wider (omega arith) (c .before .before .before .before .before .before .before .pre .1), within-wider (omega arith) (candidate-within (c .before .before .loop .i)))
 
 counts-at-requires-2 : tie.Need-counts-at-requires-2 Inv-loop μ-loop
 counts-at-requires-2 c κs = let p = c .before .before .before .before .before .before .before .before .pre in p .0
@@ -45,14 +44,11 @@ loop-again c =
       omega arith,
       omega arith,
       omega arith,
-      rw (c .better .ensures) (next (l .inv .3) (omega arith) _ _ (c .before .before .added2 .ensures) (ap errorOf (c .before .counts-at2 .ensures))),
+      rw (c .better .ensures) (next (l .inv .3) (omega arith) _ _ (c .before .before .summed2 .ensures) (ap errorOf (c .before .counts-at2 .ensures))),
     )
 
 returns : tie.Need-returns Inv-loop μ-loop
-returns c =
-    let l = c .before .before .loop in
-    let e : l .i ≡ 9 = omega arith in
-    (found (l .inv .3) e, l .inv .2 ∙ e ∙ sym (tried-nine _ _))
+returns c = let l = c .before .before .loop in found (l .inv .3) (omega arith) (l .inv .2)
 
 pub refine-spec : {M : Type 1} → statement M
 refine-spec =
@@ -61,12 +57,12 @@ refine-spec =
     Inv-loop
     μ-loop
     (λ c. search needs)
-    added-requires
+    summed-requires
     counts-at-requires
     loop-holds
     (λ c. search needs)
     (λ c. search needs)
-    added-requires-2
+    summed-requires-2
     counts-at-requires-2
     (λ c κs. search needs)
     (λ c. search needs)

@@ -1,4 +1,3 @@
--- `mtb_align::bitmap::get` meets its contract. Assumes nothing.
 use mathlib.Core.Path.{sym, ap, _∙_}
 use Prim.Native.Nat.{ℕ, _+_, _*_, _/_, _%_, _≤_, _<_}
 use borrow.Author.Needs.{needs}
@@ -7,9 +6,9 @@ use lib.Dec.{eqb}
 use lib.ListN.{getD}
 use Rattle.definitions.specs.Bitmap.{bitOf, bitAt}
 use Rattle.definitions.specs.Refusals.{pixelChecks, accepted}
-use Rattle.laws.specs.Bitmaps.{word-inside, bit-test}
-use Rattle.laws.specs.Checks.{sides-within, sides-stop}
-use Rattle.mtb_align.proofs.Pixels.{few, inside, long-stop, column-stop, row-stop, pixel-taken}
+use Rattle.laws.specs.bitmaps.Bitmaps.{word-inside, bit-test}
+use Rattle.laws.specs.checks.Checks.{sides-within, sides-stop}
+use Rattle.mtb_align.proofs.Pixels.{bitmap-fits, inside, long-stop, column-stop, row-stop, pixel-taken}
 use Rattle.mtb_align.proofs.bitmap.get.Statement.{statement}
 use Rattle.mtb_align.proofs.bitmap.get.Tie as tie
 
@@ -21,11 +20,8 @@ returns c = sides-stop _ _ _ _ (sym (c .before .side-over .ensures) ∙ c .if1 .
 sides : (c : tie.Else1) → let x = c .before .before .before .args in (x .width ≤ 8192) × (x .height ≤ 8192)
 sides c = sides-within _ _ (sym (c .before .side-over .ensures) ∙ c .if1 .left)
 
-words-per-row-requires : tie.Need-words-per-row-requires
-words-per-row-requires c κs = sides c .0
-
 mul-if2 : tie.Need-mul-if2
-mul-if2 c = omega (arith, few _ _ _ (c .words-per-row .ensures) (sides (c .before)))
+mul-if2 c = omega (arith, bitmap-fits _ _ _ (c .words-per-row .ensures) (sides (c .before)))
 
 returns-2 : tie.Need-returns-2
 unfolding pixelChecks
@@ -52,15 +48,6 @@ read-inside c =
     let r = c .before .before .before in
     inside _ _ _ (r .words-per-row .ensures) (sides (r .before)) _ _ (word-inside _ _ (c .before .if3 .left)) (c .if4 .left)
 
-mul-t9 : tie.Need-mul-t9
-mul-t9 c = omega (arith, read-inside c)
-
-add-t15 : tie.Need-add-t15
-add-t15 c = omega (arith, read-inside c)
-
-mul-t16 : tie.Need-mul-t16
-mul-t16 c = omega (arith, read-inside c)
-
 shared-slice-read-t18 : tie.Need-shared-slice-read-t18
 shared-slice-read-t18 c = omega (arith, read-inside (c .before), c .before .before .before .if2 .left)
 
@@ -81,14 +68,14 @@ get-spec =
     (tie.spec
     (λ c κs. search needs)
     returns
-    words-per-row-requires
+    (λ c κs. sides c .0)
     mul-if2
     returns-2
     returns-3
     returns-4
-    mul-t9
-    add-t15
-    mul-t16
+    (λ c. omega (arith, read-inside c))
+    (λ c. omega (arith, read-inside c))
+    (λ c. omega (arith, read-inside c))
     shared-slice-read-t18
     (λ c. search needs)
     returns-5)

@@ -1,4 +1,3 @@
--- `mtb_align::bitmap::row` meets its contract. Assumes nothing.
 use mathlib.Core.Path.{_≡_, sym, ap, _∙_}
 use Prim.Native.Nat.{ℕ, _+_, _-_, _*_, _≤_}
 use borrow.Author.Needs.{needs}
@@ -6,9 +5,9 @@ use native.Mathlib.Omega.{arith}
 use lib.ListN.{take, drop}
 use Rattle.definitions.specs.Bitmap.{rowOf}
 use Rattle.definitions.specs.Refusals.{rowChecks}
-use Rattle.laws.specs.Checks.{sides-within, sides-stop, pixel-stop, pixel-skip, done, refuses, accepts}
-use Rattle.laws.specs.Sizes.{row-inside}
-use Rattle.mtb_align.proofs.Pixels.{few, long-stop, long-skip}
+use Rattle.laws.specs.checks.Checks.{sides-within, sides-stop, pixel-stop, pixel-skip, done, refuses, accepts}
+use Rattle.laws.specs.images.Sizes.{row-inside}
+use Rattle.mtb_align.proofs.Pixels.{bitmap-fits, long-stop, long-skip}
 use Rattle.mtb_align.proofs.bitmap.row.Statement.{statement}
 use Rattle.mtb_align.proofs.bitmap.row.Tie as tie
 
@@ -20,11 +19,8 @@ returns c = refuses _ _ _ (sides-stop tt _ _ _ (sym (c .before .before .side-ove
 sides : (c : tie.Else1) → let x = c .before .before .before .args in (x .width ≤ 8192) × (x .height ≤ 8192)
 sides c = sides-within _ _ (sym (c .before .side-over .ensures) ∙ c .if1 .left)
 
-words-per-row-requires : tie.Need-words-per-row-requires
-words-per-row-requires c κs = sides c .0
-
 mul-if2 : tie.Need-mul-if2
-mul-if2 c = omega (arith, few _ _ _ (c .words-per-row .ensures) (sides (c .before)))
+mul-if2 c = omega (arith, bitmap-fits _ _ _ (c .words-per-row .ensures) (sides (c .before)))
 
 returns-2 : tie.Need-returns-2
 unfolding rowChecks
@@ -46,19 +42,7 @@ part-inside : (c : tie.Else3) →
     (x .y * r .words-per-row .result + r .words-per-row .result ≤ x .height * r .words-per-row .result) × (x .height * r .words-per-row .result ≤ 1048576)
 part-inside c =
     let r = c .before .before in
-    (row-inside _ _ _ (c .if3 .left), few _ _ _ (r .words-per-row .ensures) (sides (r .before)))
-
-mul-start : tie.Need-mul-start
-mul-start c = omega (arith, part-inside c)
-
-add-end : tie.Need-add-end
-add-end c = omega (arith, part-inside c)
-
-mul-result : tie.Need-mul-result
-mul-result c = omega (arith, part-inside c)
-
-part-result-end-4 : tie.Need-part-result-end-4
-part-result-end-4 c = omega (arith, part-inside c, c .before .if2 .left)
+    (row-inside _ _ _ (c .if3 .left), bitmap-fits _ _ _ (r .words-per-row .ensures) (sides (r .before)))
 
 returns-4 : tie.Need-returns-4
 unfolding rowChecks rowOf
@@ -81,7 +65,7 @@ row-spec =
     (λ c. search needs)
     (λ c. search needs)
     returns
-    words-per-row-requires
+    (λ c κs. sides c .0)
     mul-if2
     (λ c. search needs)
     (λ c. search needs)
@@ -91,10 +75,10 @@ row-spec =
     (λ c. search needs)
     (λ c. search needs)
     returns-3
-    mul-start
-    add-end
-    mul-result
+    (λ c. omega (arith, part-inside c))
+    (λ c. omega (arith, part-inside c))
+    (λ c. omega (arith, part-inside c))
     (λ c. search needs)
     (λ c. search needs)
-    part-result-end-4
+    (λ c. omega (arith, part-inside c, c .before .if2 .left))
     returns-4)

@@ -1,4 +1,3 @@
--- `mtb_align::bitmap::set` meets its contract. Assumes nothing.
 use mathlib.Core.Path.{sym, ap, _∙_}
 use Prim.Native.Nat.{ℕ, _+_, _*_, _/_, _%_, _≤_, _<_}
 use borrow.Author.Needs.{needs}
@@ -7,9 +6,9 @@ use lib.ListN.{getD, set}
 use Rattle.definitions.specs.Bitmap.{withBit}
 use Rattle.definitions.specs.Refusals.{pixelChecks}
 use Rattle.definitions.specs.Sum.{bit}
-use Rattle.laws.specs.Bitmaps.{word-inside, withOne}
-use Rattle.laws.specs.Checks.{sides-within, sides-stop, refuses, accepts}
-use Rattle.mtb_align.proofs.Pixels.{few, inside, long-stop, column-stop, row-stop, pixel-taken}
+use Rattle.laws.specs.bitmaps.Bitmaps.{word-inside, withOne}
+use Rattle.laws.specs.checks.Checks.{sides-within, sides-stop, refuses, accepts}
+use Rattle.mtb_align.proofs.Pixels.{bitmap-fits, inside, long-stop, column-stop, row-stop, pixel-taken}
 use Rattle.mtb_align.proofs.bitmap.set.Statement.{statement}
 use Rattle.mtb_align.proofs.bitmap.set.Tie as tie
 
@@ -21,11 +20,8 @@ returns c = refuses _ _ _ (sides-stop tt _ _ _ (sym (c .before .side-over .ensur
 sides : (c : tie.Else1) → let x = c .before .before .before .args in (x .width ≤ 8192) × (x .height ≤ 8192)
 sides c = sides-within _ _ (sym (c .before .side-over .ensures) ∙ c .if1 .left)
 
-words-per-row-requires : tie.Need-words-per-row-requires
-words-per-row-requires c κs = sides c .0
-
 mul-if2 : tie.Need-mul-if2
-mul-if2 c = omega (arith, few _ _ _ (c .words-per-row .ensures) (sides (c .before)))
+mul-if2 c = omega (arith, bitmap-fits _ _ _ (c .words-per-row .ensures) (sides (c .before)))
 
 returns-2 : tie.Need-returns-2
 unfolding pixelChecks
@@ -52,21 +48,6 @@ at-inside c =
     let r = c .before .before .before in
     inside _ _ _ (r .words-per-row .ensures) (sides (r .before)) _ _ (word-inside _ _ (c .before .if3 .left)) (c .if4 .left)
 
-mul-at : tie.Need-mul-at
-mul-at c = omega (arith, at-inside c)
-
-add-at : tie.Need-add-at
-add-at c = omega (arith, at-inside c)
-
-mul-with-bit : tie.Need-mul-with-bit
-mul-with-bit c = omega (arith, at-inside c)
-
-slice-read-with-bit : tie.Need-slice-read-with-bit
-slice-read-with-bit c = omega (arith, at-inside (c .before), c .before .before .before .if2 .left)
-
-mul-words : tie.Need-mul-words
-mul-words c = omega (arith, at-inside (c .before .before))
-
 slice-write-words : tie.Need-slice-write-words
 slice-write-words c = omega (arith, at-inside (c .before .before), c .before .before .before .before .if2 .left)
 
@@ -87,17 +68,17 @@ set-spec =
     (tie.spec
     (λ c κs. search needs)
     returns
-    words-per-row-requires
+    (λ c κs. sides c .0)
     mul-if2
     returns-2
     returns-3
     returns-4
-    mul-at
-    add-at
-    mul-with-bit
-    slice-read-with-bit
+    (λ c. omega (arith, at-inside c))
+    (λ c. omega (arith, at-inside c))
+    (λ c. omega (arith, at-inside c))
+    (λ c. omega (arith, at-inside (c .before), c .before .before .before .if2 .left))
     (λ c κs. search needs)
-    mul-words
+    (λ c. omega (arith, at-inside (c .before .before)))
     slice-write-words
     (λ c. search needs)
     returns-5)

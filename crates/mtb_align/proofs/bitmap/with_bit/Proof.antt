@@ -1,10 +1,9 @@
--- `mtb_align::bitmap::with_bit` meets its contract. Assumes nothing.
 use mathlib.Core.Path.{sym, ap, _∙_}
 use mathlib.Core.Bool.{Bool}
 use native.Mathlib.Omega.{arith}
 use borrow.Author.Needs.{needs}
 use Rattle.definitions.specs.Sum.{bit}
-use Rattle.laws.specs.Bitmaps.{withOne, with-set, with-cleared}
+use Rattle.laws.specs.bitmaps.Bitmaps.{withOne, with-set, with-cleared}
 use Rattle.mtb_align.proofs.bitmap.with_bit.Statement.{statement}
 use Rattle.mtb_align.proofs.bitmap.with_bit.Tie as tie
 

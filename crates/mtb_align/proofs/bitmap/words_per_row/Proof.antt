@@ -1,4 +1,3 @@
--- `mtb_align::bitmap::words_per_row` meets its contract. Assumes nothing.
 use mathlib.Core.Path.{refl}
 use borrow.Author.Needs.{needs}
 use Rattle.definitions.specs.Bitmap.{wordsPerRow}

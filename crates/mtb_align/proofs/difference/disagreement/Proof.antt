@@ -1,11 +1,11 @@
--- `mtb_align::difference::disagreement` meets its contract. Assumes nothing.
 use mathlib.Core.Path.{sym, ap, _∙_}
 use Prim.Native.Nat.{ℕ, _*_, _≤_}
 use native.Mathlib.Omega.{arith}
 use borrow.Author.Tests.{ltb-true, ltb-false}
-use Rattle.laws.specs.Bitmaps.{bitmap-most}
-use Rattle.laws.specs.Checks.{sides-within}
-use Rattle.laws.specs.ChecksDifference.{Sized, Long, long-as, reference-over, target-over, widths-differ, heights-differ, first-long, second-long, third-long, fourth-long, some-padded, all-right, bitmaps}
+use Rattle.laws.specs.bitmaps.Bitmaps.{bitmap-most}
+use Rattle.laws.specs.checks.Checks.{sides-within}
+use Rattle.laws.specs.checks.ChecksDifference.{Sized, Long, long-as, reference-over, target-over, widths-differ, heights-differ, first-long, second-long, third-long, fourth-long, some-padded}
+use Rattle.laws.specs.checks.ChecksDifference.{all-right, bitmaps}
 use Rattle.mtb_align.proofs.difference.disagreement.Statement.{statement}
 use Rattle.mtb_align.proofs.difference.disagreement.Tie as tie
 
@@ -28,11 +28,10 @@ returns-3 c = widths-differ _ _ _ _ _ _ _ _ _ (sides (c .before .before .before)
 returns-4 : tie.Need-returns-4
 returns-4 c = heights-differ _ _ _ _ _ _ _ _ _ (sides (c .before .before .before .before)) (target-sides (c .before .before)) (c .if4 .taken)
 
-words-per-row-requires : tie.Need-words-per-row-requires
-words-per-row-requires c κs = sides (c .before .before .before .before) .0
-
 -- past those of the sizes
-sized : (c : tie.After-words-per-row) → let x = c .before .before .before .before .before .before .before .before .before .before .before .args in Sized (x .width) (x .height) (x .target-width) (x .target-height) (x .height * c .words-per-row .result)
+sized : (c : tie.After-words-per-row) →
+    let x = c .before .before .before .before .before .before .before .before .before .before .before .args in
+    Sized (x .width) (x .height) (x .target-width) (x .target-height) (x .height * c .words-per-row .result)
 sized c = record {
   sides = sides (c .before .before .before .before .before);
   target-sides = target-sides (c .before .before .before);
@@ -77,7 +76,9 @@ count-requires c κs =
     (s .sides, bitmaps _ _ _ _ _ _ _ _ s (long (c .before .before)) (ltb-false _ _ (sym (c .before .padded .ensures) ∙ c .if9 .left)))
 
 returns-10 : tie.Need-returns-10
-returns-10 c = all-right _ _ _ _ _ _ _ _ _ (sized (c .before .before .before .before .before .before .before)) (long (c .before .before .before)) (ltb-false _ _ (sym (c .before .before .padded .ensures) ∙ c .before .if9 .left)) (c .count .ensures)
+returns-10 c =
+    all-right _ _ _ _ _ _ _ _ _ (sized (c .before .before .before .before .before .before .before)) (long (c .before .before .before))
+    (ltb-false _ _ (sym (c .before .before .padded .ensures) ∙ c .before .if9 .left)) (c .count .ensures)
 
 pub disagreement-spec : {M : Type 1} → statement M
 disagreement-spec =
@@ -89,7 +90,7 @@ disagreement-spec =
     returns-2
     returns-3
     returns-4
-    words-per-row-requires
+    (λ c κs. sides (c .before .before .before .before) .0)
     mul-words
     returns-5
     returns-6

@@ -1,5 +1,5 @@
--- `mtb_align::difference::padded` meets its contract. The loop has taken the last words of the first y rows together: they have a bit
--- past the pixels exactly if these rows have a padding bit. Assumes nothing.
+-- The loop has taken the last words of the first y rows together: they have a bit past the pixels exactly if these rows have a
+-- padding bit.
 use mathlib.Core.Path.{_≡_, refl, sym, subst}
 use mathlib.Core.List.{List}
 use Prim.Native.Nat.{ℕ, _+_, _-_, _/_, _%_, _≤_, _<_}
@@ -9,8 +9,8 @@ use borrow.Author.Tests.{le-ltb}
 use lib.ListN.{length}
 use Rattle.definitions.specs.Sum.{sum}
 use Rattle.definitions.specs.Bitmap.{wordsPerRow, wordAt, paddingSet}
-use Rattle.laws.specs.Bitmaps.{words-most, last-inside, paddingIn, padding-none, ClearFrom, clear-none, clear-more}
-use Rattle.laws.specs.ChecksDifference.{paddingOf, paddings-test}
+use Rattle.laws.specs.bitmaps.Bitmaps.{words-most, last-inside, paddingIn, padding-none, ClearFrom, clear-none, clear-more}
+use Rattle.laws.specs.checks.ChecksDifference.{paddingOf, paddings-test}
 use Rattle.mtb_align.proofs.Pixels.{inside}
 use Rattle.mtb_align.proofs.difference.padded.Statement.{statement}
 use Rattle.mtb_align.proofs.difference.padded.Tie as tie
@@ -60,33 +60,6 @@ reads-here c =
       small = omega (arith, r .words-per-row .ensures, words-most w (s .pre .0));
     }
 
-mul-in-rt : tie.Need-mul-in-rt Inv-loop μ-loop
-mul-in-rt c = omega (arith, reads-here c)
-
-shared-slice-read-in-rt : tie.Need-shared-slice-read-in-rt Inv-loop μ-loop
-shared-slice-read-in-rt c = omega (arith, reads-here (c .before))
-
-mul-in-re : tie.Need-mul-in-re Inv-loop μ-loop
-mul-in-re c = omega (arith, reads-here (c .before))
-
-shared-slice-read-in-re : tie.Need-shared-slice-read-in-re Inv-loop μ-loop
-shared-slice-read-in-re c = omega (arith, reads-here (c .before .before))
-
-mul-in-st : tie.Need-mul-in-st Inv-loop μ-loop
-mul-in-st c = omega (arith, reads-here (c .before .before))
-
-shared-slice-read-in-st : tie.Need-shared-slice-read-in-st Inv-loop μ-loop
-shared-slice-read-in-st c = omega (arith, reads-here (c .before .before .before))
-
-mul-in-se : tie.Need-mul-in-se Inv-loop μ-loop
-mul-in-se c = omega (arith, reads-here (c .before .before .before))
-
-shared-slice-read-in-se : tie.Need-shared-slice-read-in-se Inv-loop μ-loop
-shared-slice-read-in-se c = omega (arith, reads-here (c .before .before .before .before))
-
-add-at : tie.Need-add-at Inv-loop μ-loop
-add-at c = omega (arith, reads-here (c .before .before .before .before))
-
 loop-again : tie.Need-loop-again Inv-loop μ-loop
 loop-again c =
     let l = c .before .before .before .before .before in
@@ -124,15 +97,15 @@ padded-spec =
     returns
     (λ c κs. omega arith)
     loop-holds
-    mul-in-rt
-    shared-slice-read-in-rt
-    mul-in-re
-    shared-slice-read-in-re
-    mul-in-st
-    shared-slice-read-in-st
-    mul-in-se
-    shared-slice-read-in-se
-    add-at
+    (λ c. omega (arith, reads-here c))
+    (λ c. omega (arith, reads-here (c .before)))
+    (λ c. omega (arith, reads-here (c .before)))
+    (λ c. omega (arith, reads-here (c .before .before)))
+    (λ c. omega (arith, reads-here (c .before .before)))
+    (λ c. omega (arith, reads-here (c .before .before .before)))
+    (λ c. omega (arith, reads-here (c .before .before .before)))
+    (λ c. omega (arith, reads-here (c .before .before .before .before)))
+    (λ c. omega (arith, reads-here (c .before .before .before .before)))
     (λ c. omega arith)
     (λ c. omega arith)
     loop-again

@@ -1,4 +1,3 @@
--- `mtb_align::error::side_over` meets its contract. Assumes nothing.
 use borrow.Author.Tests.{lt-ltb, le-ltb}
 use Rattle.definitions.specs.Refusals.{eitherOver}
 use Rattle.mtb_align.proofs.error.side_over.Statement.{statement}

@@ -1,8 +1,7 @@
--- `mtb_align::geometry::above` meets its contract. Assumes nothing.
 use mathlib.Core.Path.{sym}
 use native.Mathlib.Omega.{arith}
 use mir.Facts.{toZ-ofZ}
-use Rattle.laws.specs.Machine.{part32, negative, not-negative, to-nat, nat}
+use Rattle.laws.specs.general.Machine.{part32, negative, not-negative, to-nat, nat}
 use Rattle.mtb_align.proofs.geometry.above.Statement.{statement}
 use Rattle.mtb_align.proofs.geometry.above.Tie as tie
 

@@ -1,4 +1,3 @@
--- `mtb_align::geometry::below` meets its contract. Assumes nothing.
 use mathlib.Core.Path.{_≡_, sym, ap, _∙_}
 use Prim.Native.Nat.{_≤_}
 use native.Mathlib.Omega.{arith}
@@ -7,8 +6,8 @@ use mir.Syntax.{w32, w64}
 use mir.Val.{toZ, ofZ}
 use mir.Facts.{toZ-ofZ}
 use Rattle.definitions.specs.Geometry.{behind}
-use Rattle.laws.specs.Whole.{alone, minus, equal}
-use Rattle.laws.specs.Machine.{part32, widen, fit, fits64, read, negative, not-negative, to-nat, nat}
+use Rattle.laws.specs.general.Whole.{alone, minus, equal}
+use Rattle.laws.specs.general.Machine.{part32, widen, fit, fits64, read, negative, not-negative, to-nat, nat}
 use Rattle.mtb_align.proofs.geometry.below.Statement.{statement}
 use Rattle.mtb_align.proofs.geometry.below.Tie as tie
 

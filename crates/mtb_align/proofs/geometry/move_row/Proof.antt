@@ -1,10 +1,10 @@
--- `mtb_align::geometry::move_row` meets its contract: each run is written behind the one before it. Assumes nothing.
+-- Each run is written behind the one before it.
 use Prim.Native.Nat.{ℕ, _+_}
 use borrow.Author.Needs.{needs}
 use lib.ListN.{getD, replicate, length-replicate}
 use Rattle.definitions.specs.Build.{build}
-use Rattle.laws.specs.Lists.{build-length}
-use Rattle.laws.specs.Runs.{sets-then}
+use Rattle.laws.specs.general.Lists.{build-length}
+use Rattle.laws.specs.images.Runs.{sets-then}
 use Rattle.mtb_align.proofs.geometry.move_row.Statement.{statement}
 use Rattle.mtb_align.proofs.geometry.move_row.Tie as tie
 

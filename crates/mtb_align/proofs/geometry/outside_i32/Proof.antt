@@ -1,6 +1,5 @@
--- `mtb_align::geometry::outside_i32` meets its contract. Assumes nothing.
 use mir.Facts.{toZ-ofZ}
-use Rattle.laws.specs.Machine.{under, not-under}
+use Rattle.laws.specs.general.Machine.{under, not-under}
 use Rattle.mtb_align.proofs.geometry.outside_i32.Statement.{statement}
 use Rattle.mtb_align.proofs.geometry.outside_i32.Tie as tie
 

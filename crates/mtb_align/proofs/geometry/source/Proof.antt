@@ -1,10 +1,10 @@
--- `mtb_align::geometry::source` meets its contract: each `return` is one case of `Places.antt`. Assumes nothing.
+-- Each `return` is one case of `Places.antt`.
 use mathlib.Core.Path.{_≡_, sym, ap, _∙_}
 use native.Mathlib.Omega.{arith}
 use borrow.Author.Needs.{needs}
 use mir.Facts.{toZ-ofZ}
 use Rattle.definitions.specs.Geometry.{ahead, behind}
-use Rattle.laws.specs.Places.{source-before, source-inside, source-past}
+use Rattle.laws.specs.images.Places.{source-before, source-inside, source-past}
 use Rattle.mtb_align.proofs.geometry.source.Statement.{statement}
 use Rattle.mtb_align.proofs.geometry.source.Tie as tie
 

@@ -1,4 +1,4 @@
--- `mtb_align::geometry::span` meets its contract. The larger and the smaller coordinate lie as far above and below 0 as any of the first k. Assumes nothing.
+-- The larger and the smaller coordinate lie as far above and below 0 as any of the first k.
 use mathlib.Core.Path.{_≡_, ap, _∙_}
 use mathlib.Core.List.{List}
 use Prim.Native.Nat.{ℕ, _+_, _-_, _*_, _/_, _≤_, max}
@@ -10,7 +10,7 @@ use mir.Val.{SFits, toZ}
 use mir.Facts.{toZ-ofZ}
 use Rattle.definitions.specs.Build.{build}
 use Rattle.definitions.specs.Geometry.{ahead, behind, largest}
-use Rattle.laws.specs.Axis.{axisOf, largest-none, largest-more}
+use Rattle.laws.specs.images.Axis.{axisOf, largest-none, largest-more}
 use Rattle.mtb_align.proofs.geometry.span.Statement.{statement}
 use Rattle.mtb_align.proofs.geometry.span.Tie as tie
 

@@ -1,10 +1,9 @@
--- `mtb_align::geometry::wide_sum` meets its contract. Assumes nothing.
 use mathlib.Core.Path.{_≡_}
 use lib.IntN.{_+ℤ_}
 use mir.Syntax.{w32, w64}
 use mir.Val.{toZ, ofZ}
 use mir.Facts.{toZ-ofZ}
-use Rattle.laws.specs.Machine.{read, fit, both, widen, sum-fits}
+use Rattle.laws.specs.general.Machine.{read, fit, both, widen, sum-fits}
 use Rattle.mtb_align.proofs.geometry.wide_sum.Statement.{statement}
 use Rattle.mtb_align.proofs.geometry.wide_sum.Tie as tie
 

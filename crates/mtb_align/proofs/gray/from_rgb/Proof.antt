@@ -1,10 +1,9 @@
--- `mtb_align::gray::from_rgb` meets its contract. Assumes nothing.
 use mathlib.Core.Path.{sym, _∙_}
 use borrow.Author.Needs.{needs}
 use native.Mathlib.Omega.{arith}
 use Rattle.definitions.specs.Refusals.{fromRgbChecks}
-use Rattle.laws.specs.Checks.{sides-within, sides-stop, sides-skip, length-stop, length-skip, done, refuses, accepts}
-use Rattle.laws.specs.Sizes.{area}
+use Rattle.laws.specs.checks.Checks.{sides-within, sides-stop, sides-skip, length-stop, length-skip, done, refuses, accepts}
+use Rattle.laws.specs.images.Sizes.{area}
 use Rattle.mtb_align.proofs.gray.from_rgb.Statement.{statement}
 use Rattle.mtb_align.proofs.gray.from_rgb.Tie as tie
 

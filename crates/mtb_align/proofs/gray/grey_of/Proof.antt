@@ -1,4 +1,3 @@
--- `mtb_align::gray::grey_of` meets its contract. Assumes nothing.
 use borrow.Author.Needs.{needs}
 use native.Mathlib.Omega.{arith}
 use Rattle.definitions.specs.Gray.{grey}

@@ -1,4 +1,4 @@
--- `mtb_align::report::copy_shifts` meets its contract. The first k coordinates are stored. Assumes nothing.
+-- The first k coordinates are stored.
 use mathlib.Core.Path.{_≡_, refl, sym, ap, _∙_}
 use mathlib.Core.List.{List}
 use Prim.Native.Nat.{ℕ, _-_, _≤_}
@@ -11,8 +11,8 @@ use mir.Facts.{toZ-ofZ}
 use mir.Syntax.{w32}
 use mir.Val.{SFits, toZ, ofZ}
 use Rattle.definitions.specs.Build.{build}
-use Rattle.laws.specs.Lists.{build-is, build-length}
-use Rattle.laws.specs.Writes.{store-none, store-more, sets-whole}
+use Rattle.laws.specs.general.Lists.{build-is, build-length}
+use Rattle.laws.specs.general.Writes.{store-none, store-more, sets-whole}
 use Rattle.mtb_align.proofs.report.copy_shifts.Statement.{statement}
 use Rattle.mtb_align.proofs.report.copy_shifts.Tie as tie
 

@@ -1,4 +1,3 @@
--- `mtb_align::report::put_found` meets its contract. Assumes nothing.
 use mathlib.Core.Path.{_≡_, sym, ap, _∙_}
 use Prim.Native.Nat.{_*_}
 use borrow.Author.Needs.{needs}
@@ -6,11 +5,11 @@ use native.Mathlib.Omega.{arith}
 use lib.Seq.{sets}
 use Rattle.definitions.specs.Align.{Stack}
 use Rattle.definitions.specs.Report.{records, verdicts}
-use Rattle.laws.specs.Kept.{keeps-all}
-use Rattle.laws.specs.Lists.{build-length}
-use Rattle.laws.specs.Records.{records-number}
-use Rattle.laws.specs.StackWalks.{free-same}
-use Rattle.laws.specs.Writes.{sets-whole}
+use Rattle.laws.specs.search.Free.{free-same}
+use Rattle.laws.specs.report.Kept.{keeps-all}
+use Rattle.laws.specs.general.Lists.{build-length}
+use Rattle.laws.specs.report.Records.{records-number}
+use Rattle.laws.specs.general.Writes.{sets-whole}
 use Rattle.mtb_align.specs.Stack.{stackIn}
 use Rattle.mtb_align.specs.Survey.{termsIn}
 use Rattle.mtb_align.proofs.Surveyed.{front-copied}
@@ -18,7 +17,7 @@ use Rattle.mtb_align.proofs.report.put_found.Statement.{statement}
 use Rattle.mtb_align.proofs.report.put_found.Tie as tie
 
 abbrev stack : tie.Start → Stack
-stack s = let a = s .args in stackIn (a .width) (a .height) (a .n) (a .samples .now) (a .reference) (a .options)
+stack s = stackIn (s .args .frames) (s .args .samples .now)
 
 -- the verdicts are as many as the list holds
 whole : (s : tie.Start) → sets (s .args .verdicts .now) 0 (verdicts (stack s) (termsIn (s .args .terms))) ≡ verdicts (stack s) (termsIn (s .args .terms))
@@ -29,29 +28,38 @@ copy-run-requires : tie.Need-copy-run-requires
 copy-run-requires c κs = let s = c .before .before .before .before .before .before .before .before in (omega (arith, s .pre .1 .0 .1 .long), omega (arith, s .pre .1 .1 .0))
 
 copy-run-requires-2 : tie.Need-copy-run-requires-2
-copy-run-requires-2 c κs = let s = c .before .before .before .before .before .before .before .before .before .before .before .before in (omega (arith, c .before .before .before .before .before .if1 .taken), omega (arith, s .pre .1 .1 .1))
+copy-run-requires-2 c κs =
+    let s = c .before .before .before .before .before .before .before .before .before .before .before .before in
+    (omega (arith, c .before .before .before .before .before .if1 .taken), omega (arith, s .pre .1 .1 .1))
 
 returns : tie.Need-returns
 returns c =
     let s = c .before .before .before .before .before .before .before .before .before .before .before .before .before .before .before in
     let a = s .args in
-    let f = s .pre .1 .0 .1 in (
-      c .before .before .before .before .before .before .copy-run .ensures ∙ ap (sets (a .verdicts .now) 0) (front-copied (a .n) (a .judged .now) (f .long) ∙ f .judgements) ∙ whole s,
+    let f = s .pre .1 .0 .1 in
+    let fits = c .before .before .before .before .before .before .before .before .if1 .taken in (
+      c .before .before .before .before .before .before .copy-run .ensures
+          ∙ ap (sets (a .verdicts .now) 0) (front-copied (a .frames .count) (a .judged .now) (f .long) ∙ f .judgements)
+          ∙ whole s,
       (
-        c .before .before .copy-run2 .ensures ∙ ap (sets (a .records .now) 0) (front-copied (20 * a .needed) (a .kept .now) (c .before .before .before .before .before .before .before .before .if1 .taken) ∙ f .bytes (c .before .before .before .before .before .before .before .before .if1 .taken)),
+        c .before .before .copy-run2 .ensures
+            ∙ ap (sets (a .records .now) 0) (front-copied (20 * a .needed) (a .kept .now) fits ∙ f .bytes fits),
         free-same _ _,
       ),
     )
 
 survey-frames-requires : tie.Need-survey-frames-requires
-survey-frames-requires c κs = let s = c .before .before .before .before .before .before .before .before .before .before in (s .pre .0, (s .pre .1 .0 .0, omega (arith, s .pre .1 .1 .0)))
+survey-frames-requires c κs =
+    let s = c .before .before .before .before .before .before .before .before .before .before in
+    (s .pre .0, (s .pre .1 .0 .0, omega (arith, s .pre .1 .1 .0)))
 
 returns-2 : tie.Need-returns-2
 returns-2 c =
     let s = c .before .before .before .before .before .before .before .before .before .before .before .before .before .before .before .before .before in
-    let e = c .before .before .before .before .before .before .survey-frames .ensures in (
+    let e = c .before .before .before .before .before .before .survey-frames .ensures in
+    let number = records-number (stack s) (termsIn (s .args .terms)) in (
       e .1 .0 ∙ whole s,
-      (keeps-all (e .0) (omega (arith, s .pre .1 .1 .1, s .pre .1 .0 .1 .number, records-number (stack s) (termsIn (s .args .terms)))), e .1 .1),
+      (keeps-all (e .0) (omega (arith, s .pre .1 .1 .1, s .pre .1 .0 .1 .number, number)), e .1 .1),
     )
 
 pub put-found-spec : {M : Type 1} → statement M

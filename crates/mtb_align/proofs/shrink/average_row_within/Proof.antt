@@ -1,96 +1,37 @@
--- `mtb_align::shrink::average_row_within` meets its contract. The loop has stored the first x samples of the row. Assumes nothing.
-use mathlib.Core.Path.{_≡_, _∙_}
-use mathlib.Core.List.{List}
-use Prim.Native.Nat.{ℕ, _+_, _-_, _*_, _/_, _%_, _≤_}
+-- The loop has stored the first x samples of the row.
+use mathlib.Core.Path.{_∙_}
+use Prim.Native.Nat.{_+_, _-_, _*_, _≤_}
 use native.Mathlib.Omega.{arith}
-use lib.ListN.{getD, drop}
-use lib.Seq.{getD-drop}
-use Rattle.definitions.specs.Shrink.{mean, average, halvedSample}
-use Rattle.mtb_align.proofs.Halves.{Samples, no-samples, one-sample}
+use lib.ListN.{drop}
+use Rattle.definitions.specs.Shrink.{average}
+use Rattle.laws.specs.general.Writes.{Stored, stored-none, stored-more, stored-all}
+use Rattle.mtb_align.proofs.Halves.{halved, mean-is}
 use Rattle.mtb_align.proofs.Within.{sample-within}
 use Rattle.mtb_align.proofs.shrink.average_row_within.Statement.{statement}
 use Rattle.mtb_align.proofs.shrink.average_row_within.Tie as tie
 
--- the mean of the block whose rows are the pairs p and q
-mean-is : (l : List ℕ) (from w x y p q : ℕ) → let top = from + 2 * y * w in
-    (p % 256 ≡ getD l (top + 2 * x) 0) × (p / 256 ≡ getD l (top + 2 * x + 1) 0)
-    → (q % 256 ≡ getD l (top + w + 2 * x) 0) × (q / 256 ≡ getD l (top + w + 2 * x + 1) 0)
-    → mean (p % 256) (p / 256) (q % 256) (q / 256) ≡ halvedSample average (drop from l) w x y
-unfolding halvedSample
-mean-is l from w x y p q (a, b) (c, d) =
-    let top = from + 2 * y * w in
-    let here : top + 2 * x ≡ from + (2 * y * w + 2 * x) = omega arith in
-    let right : top + 2 * x + 1 ≡ from + (2 * y * w + (2 * x + 1)) = omega arith in
-    let under : top + w + 2 * x ≡ from + ((2 * y + 1) * w + 2 * x) = omega arith in
-    let last : top + w + 2 * x + 1 ≡ from + ((2 * y + 1) * w + (2 * x + 1)) = omega arith in
-    simp getD-drop (cc)
-
 abbrev Inv-loop : tie.InvT-loop
-Inv-loop scratch₀ from width y at n top bottom x₀ scratch x = (x ≤ n) × Samples average (drop from scratch₀) width y at scratch₀ scratch x
+Inv-loop scratch₀ from width y at n top bottom x₀ scratch x = (x ≤ n) × Stored (halved average (drop from scratch₀) width y) at scratch₀ scratch x
 
 abbrev μ-loop : tie.MeasureT-loop
 μ-loop scratch₀ from width y at n top bottom x₀ scratch x = n - x
 
-mul-top : tie.Need-mul-top Inv-loop μ-loop
-mul-top c = omega arith
-
-mul-top-2 : tie.Need-mul-top-2 Inv-loop μ-loop
-mul-top-2 c = omega arith
-
-add-top : tie.Need-add-top Inv-loop μ-loop
-add-top c = omega arith
-
-add-bottom : tie.Need-add-bottom Inv-loop μ-loop
-add-bottom c = omega arith
-
 loop-holds : tie.Need-loop-holds Inv-loop μ-loop
-loop-holds c = (omega arith, no-samples _ _ _ _ _ _)
-
-mul-left : tie.Need-mul-left Inv-loop μ-loop
-mul-left c = omega arith
-
-add-pair : tie.Need-add-pair Inv-loop μ-loop
-add-pair c = omega arith
-
-pair-requires : tie.Need-pair-requires Inv-loop μ-loop
-pair-requires c κs = omega arith
-
-add-pair-2 : tie.Need-add-pair-2 Inv-loop μ-loop
-add-pair-2 c = omega arith
-
-pair-requires-2 : tie.Need-pair-requires-2 Inv-loop μ-loop
-pair-requires-2 c κs = omega arith
-
-mean-of-requires : tie.Need-mean-of-requires Inv-loop μ-loop
-mean-of-requires c κs = tt
-
-add-scratch : tie.Need-add-scratch Inv-loop μ-loop
-add-scratch c = omega arith
-
-slice-write-scratch : tie.Need-slice-write-scratch Inv-loop μ-loop
-slice-write-scratch c = omega arith
-
-add-x : tie.Need-add-x Inv-loop μ-loop
-add-x c = omega arith
-
-loop-less : tie.Need-loop-less Inv-loop μ-loop
-loop-less c = omega arith
+loop-holds c = (omega arith, stored-none _ _ _)
 
 loop-again : tie.Need-loop-again Inv-loop μ-loop
 loop-again c =
-    let a = c .before .before .before .before .before .before .before .before .args in
     let l = c .before .before .before .before .before .before .loop in
-    let q = l .inv .1 in
-    let e = mean-is (l .scratch) (a .from) (a .width) (l .x) (a .y) _ _ (c .before .before .before .pair .ensures) (c .before .pair2 .ensures) in
-    (omega arith, one-sample q (c .mean-of .ensures ∙ e ∙ sample-within (a .from) q (omega arith) (omega arith)))
+    let a = c .before .before .before .before .before .before .before .before .args in
+    let e = mean-is (l .scratch) (a .from) (a .width) (l .x) (a .y) (a .from + 2 * a .y * a .width) (omega arith) _ _ in
+    let m = c .mean-of .ensures ∙ e (c .before .before .before .side-by-side .ensures) (c .before .side-by-side2 .ensures) in
+    (omega arith, stored-more (l .inv .1) (m ∙ sample-within average (a .from) (a .width) (a .y) (l .inv .1) (omega arith) (omega arith)))
 
 same-length : tie.Need-same-length Inv-loop μ-loop
 same-length c = c .before .loop .inv .1 .long
 
 returns : tie.Need-returns Inv-loop μ-loop
-returns c =
-    let e : c .before .loop .x ≡ c .before .before .before .args .width / 2 = omega arith in
-    rw e at (c .before .loop .inv .1 .are)
+returns c = stored-all (c .before .loop .inv .1) (omega arith)
 
 pub average-row-within-spec : {M : Type 1} → statement M
 average-row-within-spec =
@@ -98,21 +39,21 @@ average-row-within-spec =
     (tie.spec
     Inv-loop
     μ-loop
-    mul-top
-    mul-top-2
-    add-top
-    add-bottom
+    (λ c. omega arith)
+    (λ c. omega arith)
+    (λ c. omega arith)
+    (λ c. omega arith)
     loop-holds
-    mul-left
-    add-pair
-    pair-requires
-    add-pair-2
-    pair-requires-2
-    mean-of-requires
-    add-scratch
-    slice-write-scratch
-    add-x
-    loop-less
+    (λ c. omega arith)
+    (λ c. omega arith)
+    (λ c κs. omega arith)
+    (λ c. omega arith)
+    (λ c κs. omega arith)
+    (λ c κs. tt)
+    (λ c. omega arith)
+    (λ c. omega arith)
+    (λ c. omega arith)
+    (λ c. omega arith)
     loop-again
     same-length
     returns)

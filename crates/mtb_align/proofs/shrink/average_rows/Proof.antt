@@ -1,4 +1,4 @@
--- `mtb_align::shrink::average_rows` meets its contract. The loop has stored the first y rows. Assumes nothing.
+-- The loop has stored the first y rows.
 use Prim.Native.Nat.{_-_, _≤_}
 use native.Mathlib.Omega.{arith}
 use Rattle.definitions.specs.Shrink.{average}
@@ -30,12 +30,6 @@ average-row-requires c κs =
     let i = in-frame (c .before) in
     (omega arith, omega arith, omega (arith, i .source), omega (arith, i .target))
 
-add-y : tie.Need-add-y Inv-loop μ-loop
-add-y c = omega arith
-
-loop-less : tie.Need-loop-less Inv-loop μ-loop
-loop-less c = omega arith
-
 loop-again : tie.Need-loop-again Inv-loop μ-loop
 loop-again c = (omega arith, one-row (c .before .before .before .before .before .loop .inv .1) (c .before .before .average-row .ensures))
 
@@ -55,8 +49,8 @@ average-rows-spec =
     mul-average-row
     add-average-row
     average-row-requires
-    add-y
-    loop-less
+    (λ c. omega arith)
+    (λ c. omega arith)
     loop-again
     same-length
     returns)

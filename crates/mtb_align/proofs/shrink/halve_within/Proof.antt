@@ -1,4 +1,4 @@
--- `mtb_align::shrink::halve_within` meets its contract. The loop has stored the first y rows. Assumes nothing.
+-- The loop has stored the first y rows.
 use Prim.Native.Nat.{_-_, _*_, _≤_}
 use native.Mathlib.Omega.{arith}
 use lib.ListN.{take, drop}
@@ -33,12 +33,6 @@ row-within-requires c κs =
     let i = in-frame (c .before) in
     (omega arith, omega arith, omega (arith, i .source), omega (arith, i .target))
 
-add-y : tie.Need-add-y Inv-loop μ-loop
-add-y c = omega arith
-
-loop-less : tie.Need-loop-less Inv-loop μ-loop
-loop-less c = omega arith
-
 loop-again : tie.Need-loop-again Inv-loop μ-loop
 loop-again c =
     let a = c .before .before .before .before .before .before .before .args in
@@ -60,8 +54,8 @@ halve-within-spec =
     mul-row-within
     add-row-within
     row-within-requires
-    add-y
-    loop-less
+    (λ c. omega arith)
+    (λ c. omega arith)
     loop-again
     same-length
     returns)

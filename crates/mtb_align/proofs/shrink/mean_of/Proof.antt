@@ -1,24 +1,8 @@
--- `mtb_align::shrink::mean_of` meets its contract. Assumes nothing.
 use borrow.Author.Needs.{needs}
 use mathlib.Core.Path.{refl}
 use Rattle.definitions.specs.Shrink.{mean}
 use Rattle.mtb_align.proofs.shrink.mean_of.Statement.{statement}
 use Rattle.mtb_align.proofs.shrink.mean_of.Tie as tie
-
-add-result : tie.Need-add-result
-add-result c = search needs
-
-add-result-2 : tie.Need-add-result-2
-add-result-2 c = search needs
-
-add-result-3 : tie.Need-add-result-3
-add-result-3 c = search needs
-
-add-result-4 : tie.Need-add-result-4
-add-result-4 c = search needs
-
-cast-result : tie.Need-cast-result
-cast-result c = search needs
 
 returns : tie.Need-returns
 unfolding mean
@@ -26,4 +10,4 @@ returns c = refl
 
 pub mean-of-spec : {M : Type 1} → statement M
 mean-of-spec =
-    tie.close (tie.spec add-result add-result-2 add-result-3 add-result-4 cast-result returns)
+    tie.close (tie.spec (λ c. search needs) (λ c. search needs) (λ c. search needs) (λ c. search needs) (λ c. search needs) returns)

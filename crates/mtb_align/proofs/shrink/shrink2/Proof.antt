@@ -1,11 +1,10 @@
--- `mtb_align::shrink::shrink2` meets its contract. Assumes nothing.
 use mathlib.Core.Path.{sym, _∙_}
 use Prim.Native.Nat.{_/_, _≤_}
 use borrow.Author.Needs.{needs}
 use native.Mathlib.Omega.{arith}
 use Rattle.definitions.specs.Refusals.{shrinkChecks}
-use Rattle.laws.specs.Checks.{sides-within, sides-stop, sides-skip, length-stop, length-skip, done, refuses, accepts}
-use Rattle.laws.specs.Sizes.{area}
+use Rattle.laws.specs.checks.Checks.{sides-within, sides-stop, sides-skip, length-stop, length-skip, done, refuses, accepts}
+use Rattle.laws.specs.images.Sizes.{area}
 use Rattle.mtb_align.proofs.Halves.{shrink2-whole}
 use Rattle.mtb_align.proofs.shrink.shrink2.Statement.{statement}
 use Rattle.mtb_align.proofs.shrink.shrink2.Tie as tie
@@ -13,9 +12,6 @@ use Rattle.mtb_align.proofs.shrink.shrink2.Tie as tie
 -- past the first test
 within : (c : tie.Else1) → let a = c .before .before .before .before .args in (a .width ≤ 8192) × (a .height ≤ 8192)
 within c = sides-within _ _ (sym (c .before .side-over .ensures) ∙ c .if1 .left)
-
-side-over-requires : tie.Need-side-over-requires
-side-over-requires c κs = search needs
 
 returns : tie.Need-returns
 unfolding shrinkChecks
@@ -45,9 +41,6 @@ halve-requires c κs =
     let s = within (c .before .before .before) in
     (s .0, s .1, c .before .before .if2 .left, omega arith)
 
-same-length : tie.Need-same-length
-same-length c = search needs
-
 returns-4 : tie.Need-returns-4
 unfolding shrinkChecks
 returns-4 c =
@@ -60,12 +53,12 @@ pub shrink2-spec : {M : Type 1} → statement M
 shrink2-spec =
     tie.close
     (tie.spec
-    side-over-requires
+    (λ c κs. search needs)
     returns
     mul-if2
     returns-2
     mul-if3
     returns-3
     halve-requires
-    same-length
+    (λ c. search needs)
     returns-4)

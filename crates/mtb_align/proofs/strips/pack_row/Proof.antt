@@ -1,4 +1,4 @@
--- `mtb_align::strips::pack_row` meets its contract. The loop has stored the first k words of both rows. Assumes nothing.
+-- The loop has stored the first k words of both rows.
 use mathlib.Core.Path.{_≡_, refl}
 use Prim.Native.Nat.{_-_, _≤_}
 use borrow.Author.Needs.{needs}
@@ -8,7 +8,7 @@ use lib.Seq.{sets}
 use Rattle.definitions.specs.Build.{build}
 use Rattle.definitions.specs.Threshold.{thresholdBit, exclusionBit}
 use Rattle.definitions.specs.Bitmap.{wordsPerRow}
-use Rattle.laws.specs.Writes.{store-none, store-more}
+use Rattle.laws.specs.general.Writes.{store-none, store-more}
 use Rattle.mtb_align.proofs.Rows.{wordAt, full-word, part-word, row-full, row-part}
 use Rattle.mtb_align.proofs.strips.pack_row.Statement.{statement}
 use Rattle.mtb_align.proofs.strips.pack_row.Tie as tie
@@ -35,9 +35,6 @@ loop-holds c =
       store-none (x .exclusion .now) (x .at) (wordAt (x .samples .now) (exclusionBit (x .cut) (x .tolerance)) (x .from) (x .width)),
     )
 
-full-requires : tie.Need-full-requires Inv-loop μ-loop
-full-requires c κs = (omega arith, c .before .before .before .before .before .pre .2)
-
 slice-write-threshold : tie.Need-slice-write-threshold Inv-loop μ-loop
 unfolding wordsPerRow
 slice-write-threshold c = omega arith
@@ -52,17 +49,11 @@ loop-again c =
     let x = l .before .before .before .before .args in
     let i = l .loop .inv in
     let k = l .loop .k in
-    let p = full-word (x .samples .now) (thresholdBit (x .cut)) (x .from) (x .width) k (omega arith) (c .full .ensures .0) in
-    let q = full-word (x .samples .now) (exclusionBit (x .cut) (x .tolerance)) (x .from) (x .width) k (omega arith) (c .full .ensures .1) in
+    let p = full-word (x .samples .now) (thresholdBit (x .cut)) (x .from) (x .width) k (omega arith) (c .pack-word .ensures .0) in
+    let q = full-word (x .samples .now) (exclusionBit (x .cut) (x .tolerance)) (x .from) (x .width) k (omega arith) (c .pack-word .ensures .1) in
     let t = store-more (x .threshold .now) (x .at) k (wordAt (x .samples .now) (thresholdBit (x .cut)) (x .from) (x .width)) (i .3) p in
     let e = store-more (x .exclusion .now) (x .at) k (wordAt (x .samples .now) (exclusionBit (x .cut) (x .tolerance)) (x .from) (x .width)) (i .4) q in
     (omega arith, search needs, search needs, t, e)
-
-same-length : tie.Need-same-length Inv-loop μ-loop
-same-length c = c .before .before .loop .inv .1
-
-same-length-2 : tie.Need-same-length-2 Inv-loop μ-loop
-same-length-2 c = c .before .before .loop .inv .2
 
 returns : tie.Need-returns Inv-loop μ-loop
 returns c =
@@ -73,8 +64,8 @@ returns c =
       row-full (x .samples .now) (exclusionBit (x .cut) (x .tolerance)) (x .from) (x .width) (x .exclusion .now) (x .at) (omega arith) (omega arith) (i .4),
     )
 
-part-requires : tie.Need-part-requires Inv-loop μ-loop
-part-requires c κs = (omega arith, omega arith, c .before .before .before .before .before .before .pre .2)
+pack-last-requires : tie.Need-pack-last-requires Inv-loop μ-loop
+pack-last-requires c κs = (omega arith, omega arith, c .before .before .before .before .before .before .pre .2)
 
 slice-write-threshold-2 : tie.Need-slice-write-threshold-2 Inv-loop μ-loop
 unfolding wordsPerRow
@@ -90,9 +81,9 @@ returns-2 c =
     let x = l .before .before .before .before .args in
     let i = l .loop .inv in (
       row-part (x .samples .now) (thresholdBit (x .cut)) (x .from) (x .width) (x .threshold .now) (x .at) (c .before .if1 .left) (omega arith) (i .3)
-          (part-word (x .samples .now) (thresholdBit (x .cut)) (x .from) (x .width) (c .part .ensures .0)),
+          (part-word (x .samples .now) (thresholdBit (x .cut)) (x .from) (x .width) (c .pack-last .ensures .0)),
       row-part (x .samples .now) (exclusionBit (x .cut) (x .tolerance)) (x .from) (x .width) (x .exclusion .now) (x .at) (c .before .if1 .left) (omega arith) (i .4)
-          (part-word (x .samples .now) (exclusionBit (x .cut) (x .tolerance)) (x .from) (x .width) (c .part .ensures .1)),
+          (part-word (x .samples .now) (exclusionBit (x .cut) (x .tolerance)) (x .from) (x .width) (c .pack-last .ensures .1)),
     )
 
 pub pack-row-spec : {M : Type 1} → statement M
@@ -104,7 +95,7 @@ pack-row-spec =
     loop-holds
     (λ c. omega arith)
     (λ c. omega arith)
-    full-requires
+    (λ c κs. (omega arith, c .before .before .before .before .before .pre .2))
     (λ c. omega arith)
     (λ c. omega arith)
     slice-write-threshold
@@ -114,12 +105,12 @@ pack-row-spec =
     (λ c. omega arith)
     (λ c. omega arith)
     loop-again
-    same-length
-    same-length-2
+    (λ c. c .before .before .loop .inv .1)
+    (λ c. c .before .before .loop .inv .2)
     returns
     (λ c. omega arith)
     (λ c. omega arith)
-    part-requires
+    pack-last-requires
     (λ c. omega arith)
     (λ c. omega arith)
     slice-write-threshold-2

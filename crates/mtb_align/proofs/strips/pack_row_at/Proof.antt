@@ -1,4 +1,4 @@
--- `mtb_align::strips::pack_row_at` meets its contract. The loop has stored the first k words of both rows. Assumes nothing.
+-- The loop has stored the first k words of both rows.
 use mathlib.Core.Path.{_≡_, refl}
 use Prim.Native.Nat.{_-_, _≤_}
 use borrow.Author.Needs.{needs}
@@ -6,9 +6,9 @@ use native.Mathlib.Omega.{arith}
 use lib.ListN.{length, length-set}
 use Rattle.definitions.specs.Threshold.{thresholdBit, exclusionBit}
 use Rattle.definitions.specs.Bitmap.{wordsPerRow}
-use Rattle.laws.specs.Beside.{both-none, both-more}
+use Rattle.laws.specs.general.Beside.{both-none, both-more}
 use Rattle.mtb_align.proofs.Rows.{wordAt, full-word, part-word}
-use Rattle.mtb_align.proofs.Stacked.{rowsUpTo, rows-full, rows-part}
+use Rattle.mtb_align.proofs.BothMaps.{rowsUpTo, rows-full, rows-part}
 use Rattle.mtb_align.proofs.strips.pack_row_at.Statement.{statement}
 use Rattle.mtb_align.proofs.strips.pack_row_at.Tie as tie
 
@@ -23,11 +23,12 @@ abbrev μ-loop : tie.MeasureT-loop
 
 loop-holds : tie.Need-loop-holds Inv-loop μ-loop
 loop-holds c =
-    let x = c .before .before .args in
-    (omega arith, refl, both-none (x .words .now) (x .at) (x .behind) (wordAt (x .samples .now) (thresholdBit (x .cut)) (x .from) (x .width)) (wordAt (x .samples .now) (exclusionBit (x .cut) (x .tolerance)) (x .from) (x .width)))
-
-full-requires : tie.Need-full-requires Inv-loop μ-loop
-full-requires c κs = (omega arith, c .before .before .before .before .pre .2)
+    let x = c .before .before .args in (
+      omega arith,
+      refl,
+      both-none (x .words .now) (x .at) (x .behind) (wordAt (x .samples .now) (thresholdBit (x .cut)) (x .from) (x .width))
+          (wordAt (x .samples .now) (exclusionBit (x .cut) (x .tolerance)) (x .from) (x .width)),
+    )
 
 slice-write-words : tie.Need-slice-write-words Inv-loop μ-loop
 unfolding wordsPerRow
@@ -45,15 +46,13 @@ loop-again c =
     let i = l .loop .inv in
     let k = l .loop .k in
     let s = x .samples .now in
-    let p = full-word s (thresholdBit (x .cut)) (x .from) (x .width) k (omega arith) (c .full .ensures .0) in
-    let q = full-word s (exclusionBit (x .cut) (x .tolerance)) (x .from) (x .width) k (omega arith) (c .full .ensures .1) in (
+    let p = full-word s (thresholdBit (x .cut)) (x .from) (x .width) k (omega arith) (c .pack-word .ensures .0) in
+    let q = full-word s (exclusionBit (x .cut) (x .tolerance)) (x .from) (x .width) k (omega arith) (c .pack-word .ensures .1) in (
       omega arith,
       search needs,
-      both-more (x .words .now) (x .at) (x .behind) (wordAt s (thresholdBit (x .cut)) (x .from) (x .width)) (wordAt s (exclusionBit (x .cut) (x .tolerance)) (x .from) (x .width)) k (omega arith) (i .2) p q,
+      both-more (x .words .now) (x .at) (x .behind) (wordAt s (thresholdBit (x .cut)) (x .from) (x .width))
+          (wordAt s (exclusionBit (x .cut) (x .tolerance)) (x .from) (x .width)) k (omega arith) (i .2) p q,
     )
-
-same-length : tie.Need-same-length Inv-loop μ-loop
-same-length c = c .before .before .loop .inv .1
 
 returns : tie.Need-returns Inv-loop μ-loop
 returns c =
@@ -62,8 +61,8 @@ returns c =
     rows-full (x .samples .now) (thresholdBit (x .cut)) (exclusionBit (x .cut) (x .tolerance)) (x .from) (x .width) (x .words .now) (x .at) (x .behind)
     (omega arith) (omega arith) (l .loop .inv .2)
 
-part-requires : tie.Need-part-requires Inv-loop μ-loop
-part-requires c κs = (omega arith, omega arith, c .before .before .before .before .before .pre .2)
+pack-last-requires : tie.Need-pack-last-requires Inv-loop μ-loop
+pack-last-requires c κs = (omega arith, omega arith, c .before .before .before .before .before .pre .2)
 
 slice-write-words-3 : tie.Need-slice-write-words-3 Inv-loop μ-loop
 unfolding wordsPerRow
@@ -81,8 +80,8 @@ returns-2 c =
     let s = x .samples .now in
     rows-part s (thresholdBit (x .cut)) (exclusionBit (x .cut) (x .tolerance)) (x .from) (x .width) (x .words .now) (x .at) (x .behind)
     (c .before .if1 .left) (omega arith) (omega arith) (l .loop .inv .2)
-    (part-word s (thresholdBit (x .cut)) (x .from) (x .width) (c .part .ensures .0))
-    (part-word s (exclusionBit (x .cut) (x .tolerance)) (x .from) (x .width) (c .part .ensures .1))
+    (part-word s (thresholdBit (x .cut)) (x .from) (x .width) (c .pack-last .ensures .0))
+    (part-word s (exclusionBit (x .cut) (x .tolerance)) (x .from) (x .width) (c .pack-last .ensures .1))
 
 pub pack-row-at-spec : {M : Type 1} → statement M
 pack-row-at-spec =
@@ -93,7 +92,7 @@ pack-row-at-spec =
     loop-holds
     (λ c. omega arith)
     (λ c. omega arith)
-    full-requires
+    (λ c κs. (omega arith, c .before .before .before .before .pre .2))
     (λ c. omega arith)
     (λ c. omega arith)
     slice-write-words
@@ -103,11 +102,11 @@ pack-row-at-spec =
     (λ c. omega arith)
     (λ c. omega arith)
     loop-again
-    same-length
+    (λ c. c .before .before .loop .inv .1)
     returns
     (λ c. omega arith)
     (λ c. omega arith)
-    part-requires
+    pack-last-requires
     (λ c. omega arith)
     (λ c. omega arith)
     slice-write-words-3

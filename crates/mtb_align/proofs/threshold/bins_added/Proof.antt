@@ -1,4 +1,4 @@
--- `mtb_align::threshold::bins_added` meets its contract. The loop has added the first `level` bins, and with what a walk over the others adds that is the whole walk. Assumes nothing.
+-- The loop has added the first `level` bins, and with what a walk over the others adds that is the whole walk.
 use mathlib.Core.Path.{_≡_, refl, sym, _∙_}
 use mathlib.Core.List.{List}
 use Prim.Native.Nat.{ℕ, suc, _+_, _-_, _≤_, _<_}
@@ -9,8 +9,8 @@ use lib.ListN.{length, getD, drop, drop-of-length-le}
 use lib.Seq.{drop-cons}
 use Rattle.definitions.specs.Sum.{sum}
 use Rattle.definitions.specs.Threshold.{binsAdded}
-use Rattle.laws.specs.Sums.{sum-none, sum-more, sum-step, sum-split}
-use Rattle.laws.specs.Cut.{cut-end, cut-stop, cut-turn}
+use Rattle.laws.specs.general.Sums.{sum-none, sum-more, sum-step, sum-split}
+use Rattle.laws.specs.images.Cut.{cut-end, cut-stop, cut-turn}
 use Rattle.mtb_align.proofs.threshold.bins_added.Statement.{statement}
 use Rattle.mtb_align.proofs.threshold.bins_added.Tie as tie
 

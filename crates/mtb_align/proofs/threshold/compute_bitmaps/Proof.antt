@@ -1,4 +1,3 @@
--- `mtb_align::threshold::compute_bitmaps` meets its contract. Assumes nothing.
 use mathlib.Core.Path.{_≡_, sym, ap, _∙_}
 use Prim.Native.Nat.{ℕ, _*_, _≤_}
 use borrow.Author.Needs.{needs}
@@ -6,9 +5,9 @@ use native.Mathlib.Omega.{arith}
 use Rattle.definitions.specs.Bitmap.{bitmapWords, packed}
 use Rattle.definitions.specs.Difference.{bitmapsOf}
 use Rattle.definitions.specs.Refusals.{packingChecks}
-use Rattle.laws.specs.Bitmaps.{bitmap-most}
-use Rattle.laws.specs.Checks.{sides-within, sides-stop, sides-skip, length-stop, length-skip, percentile-stop, percentile-skip, done, refuses-two, accepts-two}
-use Rattle.laws.specs.Sizes.{area}
+use Rattle.laws.specs.bitmaps.Bitmaps.{bitmap-most}
+use Rattle.laws.specs.checks.Checks.{sides-within, sides-stop, sides-skip, length-stop, length-skip, percentile-stop, percentile-skip, done, refuses-two, accepts-two}
+use Rattle.laws.specs.images.Sizes.{area}
 use Rattle.mtb_align.proofs.threshold.compute_bitmaps.Statement.{statement}
 use Rattle.mtb_align.proofs.threshold.compute_bitmaps.Tie as tie
 

@@ -1,9 +1,8 @@
--- `mtb_align::threshold::count_four` meets its contract. Assumes nothing.
 use mathlib.Core.Path.{refl}
 use Prim.Native.Nat.{_+_}
 use borrow.Author.Needs.{needs}
 use native.Mathlib.Omega.{arith}
-use Rattle.laws.specs.Cut.{Bytes}
+use Rattle.laws.specs.images.Cut.{Bytes}
 use Rattle.mtb_align.specs.Tally.{Tally}
 use Rattle.mtb_align.proofs.Lanes.{lane-0, lane-1, lane-2, lane-3, tally-fits, tally-more}
 use Rattle.mtb_align.proofs.threshold.count_four.Statement.{statement}
@@ -65,7 +64,9 @@ count-four-spec =
     count-one-requires-2
     (λ c. search needs)
     (λ c. search needs)
+    (λ c. search needs)
     count-one-requires-3
+    (λ c. search needs)
     (λ c. search needs)
     (λ c. search needs)
     count-one-requires-4

@@ -1,4 +1,3 @@
--- `mtb_align::threshold::cut_of` meets its contract. Assumes nothing.
 use mathlib.Core.Path.{_≡_, ap, _∙_}
 use mathlib.Core.List.{List}
 use Prim.Native.Nat.{ℕ, _≤_}
@@ -8,8 +7,8 @@ use native.Mathlib.Omega.{arith}
 use lib.ListN.{length, getD}
 use Rattle.definitions.specs.Sum.{sum}
 use Rattle.definitions.specs.Threshold.{bins, target, binsAdded, cut}
-use Rattle.laws.specs.Cut.{Bytes, bins-sum}
-use Rattle.laws.specs.Sizes.{area}
+use Rattle.laws.specs.images.Cut.{Bytes, bins-sum}
+use Rattle.laws.specs.images.Sizes.{area}
 use Rattle.mtb_align.proofs.threshold.cut_of.Statement.{statement}
 use Rattle.mtb_align.proofs.threshold.cut_of.Tie as tie
 

@@ -1,11 +1,11 @@
--- `mtb_align::threshold::histogram` meets its contract. After y rows the lanes together count the samples of the first y rows. Assumes nothing.
+-- After y rows the lanes together count the samples of the first y rows.
 use mathlib.Core.Path.{_≡_, sym, ap, _∙_}
 use Prim.Native.Nat.{ℕ, _+_, _-_, _*_, _≤_}
 use borrow.Author.Needs.{needs}
 use native.Mathlib.Nat.{zero-mul, add-mul, mul-comm, mul-le-mul-right}
 use native.Mathlib.Omega.{arith}
 use lib.ListN.{length}
-use Rattle.laws.specs.Sizes.{area}
+use Rattle.laws.specs.images.Sizes.{area}
 use Rattle.mtb_align.specs.Tally.{Tally}
 use Rattle.mtb_align.proofs.Lanes.{tally-none, tally-le, tally-done}
 use Rattle.mtb_align.proofs.threshold.histogram.Statement.{statement}
@@ -22,12 +22,12 @@ few : (s : tie.Start Inv-loop μ-loop) → length (s .args .samples .now) ≤ 67
 few s = omega (arith, area (s .args .width) (s .args .height) (s .pre .0) (s .pre .1))
 
 -- the next rows lie inside the frame
-inside : (c : tie.After-up-to-eight Inv-loop μ-loop) → let x = c .before .before .before .before .args in c .before .before .loop .from + c .up-to-eight .result * x .width ≤ length (x .samples .now)
+inside : (c : tie.After-min Inv-loop μ-loop) → let x = c .before .before .before .before .args in c .before .before .loop .from + c .min .result * x .width ≤ length (x .samples .now)
 inside c =
     let x = c .before .before .before .before .args in
     let l = c .before .before .loop in
-    let n = c .up-to-eight .result in
-    let fit : l .y + n ≤ x .height = omega (arith, c .up-to-eight .ensures, l .inv .0) in
+    let n = c .min .result in
+    let fit : l .y + n ≤ x .height = omega (arith, c .min .ensures, l .inv .0) in
     omega (arith, l .inv .1, add-mul (l .y) n (x .width), mul-le-mul-right (x .width) fit, mul-comm (x .width) (x .height))
 
 -- all rows are all samples
@@ -41,9 +41,6 @@ whole c =
 loop-holds : tie.Need-loop-holds Inv-loop μ-loop
 loop-holds c = (omega arith, sym (zero-mul _), tally-none _)
 
-sub-up-to-eight : tie.Need-sub-up-to-eight Inv-loop μ-loop
-sub-up-to-eight c = omega (arith, c .loop-test .taken)
-
 mul-tally-rows : tie.Need-mul-tally-rows Inv-loop μ-loop
 mul-tally-rows c = omega (arith, few (c .before .before .before .before .before), inside (c .before))
 
@@ -56,18 +53,12 @@ mul-from c = omega (arith, few (c .before .before .before .before .before .befor
 add-from : tie.Need-add-from Inv-loop μ-loop
 add-from c = omega (arith, few (c .before .before .before .before .before .before), inside (c .before .before))
 
-add-y : tie.Need-add-y Inv-loop μ-loop
-add-y c = let s = c .before .before .before .before .before .before in omega (arith, c .before .before .up-to-eight .ensures, c .before .before .before .before .loop .inv .0, s .pre .1)
-
-loop-less : tie.Need-loop-less Inv-loop μ-loop
-loop-less c = omega (arith, c .before .before .up-to-eight .ensures, c .before .before .before .loop-test .taken)
-
 loop-again : tie.Need-loop-again Inv-loop μ-loop
 loop-again c =
     let l = c .before .before .before .before .loop in
-    let n = c .before .before .up-to-eight .result in
+    let n = c .before .before .min .result in
     let w = c .before .before .before .before .before .before .args .width in
-    (omega (arith, c .before .before .up-to-eight .ensures, l .inv .0), omega (arith, l .inv .1, add-mul (l .y) n w), c .tally-rows .ensures)
+    (omega (arith, c .before .before .min .ensures, l .inv .0), omega (arith, l .inv .1, add-mul (l .y) n w), c .tally-rows .ensures)
 
 fold-lanes-requires : tie.Need-fold-lanes-requires Inv-loop μ-loop
 fold-lanes-requires c κs =
@@ -86,14 +77,14 @@ histogram-spec =
     Inv-loop
     μ-loop
     loop-holds
-    sub-up-to-eight
+    (λ c. omega arith)
     (λ c κs. search needs)
     mul-tally-rows
     tally-rows-requires
     mul-from
     add-from
-    add-y
-    loop-less
+    (λ c. omega arith)
+    (λ c. omega arith)
     loop-again
     fold-lanes-requires
     returns)

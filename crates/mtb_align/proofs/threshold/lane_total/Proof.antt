@@ -1,4 +1,3 @@
--- `mtb_align::threshold::lane_total` meets its contract. Assumes nothing.
 use borrow.Author.Needs.{needs}
 use native.Mathlib.Omega.{arith}
 use Rattle.mtb_align.specs.Tally.{laneTotal}
@@ -38,7 +37,9 @@ lane-total-spec =
     (λ c. search needs)
     (λ c. search needs)
     (λ c. search needs)
+    (λ c. search needs)
     add-result-4
+    (λ c. search needs)
     (λ c. search needs)
     (λ c. search needs)
     (λ c. search needs)

@@ -1,8 +1,8 @@
--- `mtb_align::threshold::tally_rows` meets its contract. The lanes count the samples before `at`, in both loops. Assumes nothing.
+-- The lanes count the samples before `at`, in both loops.
 use mathlib.Core.Path.{_≡_, refl}
 use Prim.Native.Nat.{_+_, _-_, _≤_}
 use native.Mathlib.Omega.{arith}
-use Rattle.laws.specs.Cut.{Bytes}
+use Rattle.laws.specs.images.Cut.{Bytes}
 use Rattle.mtb_align.specs.Tally.{Tally}
 use Rattle.mtb_align.proofs.Lanes.{lane-0, tally-fits, tally-more}
 use Rattle.mtb_align.proofs.threshold.tally_rows.Statement.{statement}
@@ -39,10 +39,6 @@ loop-again c = (omega arith, c .count-four .ensures)
 loop2-holds : tie.Need-loop2-holds Inv-loop μ-loop Inv-loop2 μ-loop2
 loop2-holds c = c .before .loop .inv
 
-shared-slice-read-count-one :
-    tie.Need-shared-slice-read-count-one Inv-loop μ-loop Inv-loop2 μ-loop2
-shared-slice-read-count-one c = omega arith
-
 count-one-requires : tie.Need-count-one-requires Inv-loop μ-loop Inv-loop2 μ-loop2
 count-one-requires c κs =
     tally-fits (c .before .before .before .loop2 .inv .1) lane-0 (small c) (omega arith) (omega arith)
@@ -75,7 +71,7 @@ tally-rows-spec =
     (λ c. omega arith)
     loop-again
     loop2-holds
-    shared-slice-read-count-one
+    (λ c. omega arith)
     count-one-requires
     (λ c. omega arith)
     (λ c. omega arith)

@@ -1,11 +1,10 @@
--- `mtb_align::threshold::threshold` meets its contract. Assumes nothing.
 use mathlib.Core.Path.{sym, ap, _∙_}
 use Prim.Native.Nat.{_≤_}
 use borrow.Author.Needs.{needs}
 use native.Mathlib.Omega.{arith}
 use Rattle.definitions.specs.Refusals.{accepted, cutChecks}
-use Rattle.laws.specs.Checks.{sides-within, sides-stop, sides-skip, length-stop, length-skip, percentile-stop, percentile-skip, done}
-use Rattle.laws.specs.Sizes.{area}
+use Rattle.laws.specs.checks.Checks.{sides-within, sides-stop, sides-skip, length-stop, length-skip, percentile-stop, percentile-skip, done}
+use Rattle.laws.specs.images.Sizes.{area}
 use Rattle.mtb_align.proofs.threshold.threshold.Statement.{statement}
 use Rattle.mtb_align.proofs.threshold.threshold.Tie as tie
 

@@ -1,4 +1,3 @@
--- `mtb_c::counts::mtb_disagreement` meets its contract. Assumes nothing.
 use mathlib.Core.Path.{sym, ap, _∙_}
 use mir.Facts.{toZ-ofZ}
 use Rattle.definitions.specs.Difference.{Counts}
@@ -7,21 +6,6 @@ use Rattle.mtb_c.proofs.Slots.{status-accepted, stored, values-kept, st
 use borrow.Author.Needs.{needs}
 use Rattle.mtb_c.proofs.counts.mtb_disagreement.Statement.{statement}
 use Rattle.mtb_c.proofs.counts.mtb_disagreement.Tie as tie
-
-disagreement-requires : tie.Need-disagreement-requires
-disagreement-requires c κs = search needs
-
-enum-known-c : tie.Need-enum-known-c
-enum-known-c c = search needs
-
-enum-known-e : tie.Need-enum-known-e
-enum-known-e c = search needs
-
-put-values-requires : tie.Need-put-values-requires
-put-values-requires c κs = search needs
-
-number-requires : tie.Need-number-requires
-number-requires c κs = search needs
 
 returns : tie.Need-returns
 returns c =
@@ -39,4 +23,11 @@ returns-2 c =
 pub mtb-disagreement-spec : {M : Type 1} → statement M
 mtb-disagreement-spec =
     tie.close
-    (tie.spec disagreement-requires enum-known-c enum-known-e put-values-requires number-requires returns returns-2)
+    (tie.spec
+    (λ c κs. search needs)
+    (λ c. search needs)
+    (λ c. search needs)
+    (λ c κs. search needs)
+    (λ c κs. search needs)
+    returns
+    returns-2)

@@ -1,22 +1,9 @@
--- `mtb_c::frames::mtb_count_ones` meets its contract. Assumes nothing.
 use mathlib.Core.Path.{sym, ap, _∙_}
 use borrow.Author.Needs.{needs}
 use Rattle.mtb_align.specs.Answers.{totalAnswer}
 use Rattle.mtb_c.proofs.Slots.{slot-accepted, slot-refused}
 use Rattle.mtb_c.proofs.frames.mtb_count_ones.Statement.{statement}
 use Rattle.mtb_c.proofs.frames.mtb_count_ones.Tie as tie
-
-count-ones-requires : tie.Need-count-ones-requires
-count-ones-requires c κs = search needs
-
-enum-known-n : tie.Need-enum-known-n
-enum-known-n c = search needs
-
-enum-known-e : tie.Need-enum-known-e
-enum-known-e c = search needs
-
-number-requires : tie.Need-number-requires
-number-requires c κs = search needs
 
 returns : tie.Need-returns
 returns c = slot-accepted _ _ _ (sym (ap totalAnswer (c .before .n .given .1)) ∙ c .before .before .before .count-ones .ensures)
@@ -27,4 +14,10 @@ returns-2 c = slot-refused _ _ _ (sym (ap totalAnswer (c .before .before .e .giv
 pub mtb-count-ones-spec : {M : Type 1} → statement M
 mtb-count-ones-spec =
     tie.close
-    (tie.spec count-ones-requires enum-known-n enum-known-e number-requires returns returns-2)
+    (tie.spec
+    (λ c κs. search needs)
+    (λ c. search needs)
+    (λ c. search needs)
+    (λ c κs. search needs)
+    returns
+    returns-2)

@@ -1,22 +1,9 @@
--- `mtb_c::frames::mtb_get` meets its contract. Assumes nothing.
 use mathlib.Core.Path.{sym, ap, _∙_}
 use borrow.Author.Needs.{needs}
 use Rattle.mtb_align.specs.Answers.{pixelAnswer}
 use Rattle.mtb_c.proofs.Slots.{slot-accepted, slot-refused}
 use Rattle.mtb_c.proofs.frames.mtb_get.Statement.{statement}
 use Rattle.mtb_c.proofs.frames.mtb_get.Tie as tie
-
-get-requires : tie.Need-get-requires
-get-requires c κs = search needs
-
-enum-known-b : tie.Need-enum-known-b
-enum-known-b c = search needs
-
-enum-known-e : tie.Need-enum-known-e
-enum-known-e c = search needs
-
-number-requires : tie.Need-number-requires
-number-requires c κs = search needs
 
 returns : tie.Need-returns
 returns c = slot-accepted _ _ _ (sym (ap pixelAnswer (c .before .b .given .1)) ∙ c .before .before .before .get .ensures)
@@ -26,4 +13,10 @@ returns-2 c = slot-refused _ _ _ (sym (ap pixelAnswer (c .before .before .e .giv
 
 pub mtb-get-spec : {M : Type 1} → statement M
 mtb-get-spec =
-    tie.close (tie.spec get-requires enum-known-b enum-known-e number-requires returns returns-2)
+    tie.close (tie.spec
+    (λ c κs. search needs)
+    (λ c. search needs)
+    (λ c. search needs)
+    (λ c κs. search needs)
+    returns
+    returns-2)

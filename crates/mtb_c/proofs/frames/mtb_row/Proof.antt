@@ -1,4 +1,3 @@
--- `mtb_c::frames::mtb_row` meets its contract. Assumes nothing.
 use mathlib.Core.Path.{_≡_, sym, ap, _∙_}
 use Prim.Native.Nat.{ℕ, _*_}
 use borrow.Author.Needs.{needs}
@@ -6,7 +5,7 @@ use native.Mathlib.Omega.{arith}
 use lib.ListN.{length, take, drop}
 use Rattle.definitions.specs.Bitmap.{wordsPerRow}
 use Rattle.definitions.specs.Refusals.{after, rowChecks}
-use Rattle.laws.specs.ChecksRow.{row-long, row-start, row-start-most, row-stands}
+use Rattle.laws.specs.checks.ChecksRow.{row-long, row-start, row-start-most, row-stands}
 use Rattle.mtb_c.proofs.frames.mtb_row.Statement.{statement}
 use Rattle.mtb_c.proofs.frames.mtb_row.Tie as tie
 
@@ -15,9 +14,6 @@ taken : (c : tie.After-row)
     → let a = c .before .before .args in
     length (c .row .result .now) ≡ after (rowChecks (a .width) (a .height) (length (a .words .now)) (a .y)) (wordsPerRow (a .width)) 0
 taken c = let a = c .before .before .args in ap length (c .row .ensures) ∙ row-long (a .words .now) (a .width) (a .height) (a .y)
-
-row-requires : tie.Need-row-requires
-row-requires c κs = search needs
 
 mul-start : tie.Need-mul-start
 mul-start c =
@@ -35,4 +31,7 @@ returns c =
     )
 
 pub mtb-row-spec : {M : Type 1} → statement M
-mtb-row-spec = tie.close (tie.spec row-requires mul-start returns)
+mtb-row-spec = tie.close (tie.spec
+    (λ c κs. search needs)
+    mul-start
+    returns)

@@ -1,13 +1,9 @@
--- `mtb_c::levels::mtb_level` meets its contract. Assumes nothing.
 use mathlib.Core.Path.{sym, ap, _∙_}
 use borrow.Author.Needs.{needs}
 use Rattle.definitions.specs.Shrink.{LevelPlace, partAt}
-use Rattle.laws.specs.Pyramids.{level-stands}
+use Rattle.laws.specs.images.Pyramids.{level-stands}
 use Rattle.mtb_c.proofs.levels.mtb_level.Statement.{statement}
 use Rattle.mtb_c.proofs.levels.mtb_level.Tie as tie
-
-level-place-requires : tie.Need-level-place-requires
-level-place-requires c κs = search needs
 
 returns : tie.Need-returns
 returns c =
@@ -20,4 +16,6 @@ returns c =
     )
 
 pub mtb-level-spec : {M : Type 1} → statement M
-mtb-level-spec = tie.close (tie.spec level-place-requires returns)
+mtb-level-spec = tie.close (tie.spec
+    (λ c κs. search needs)
+    returns)

@@ -1,21 +1,8 @@
--- `mtb_c::levels::mtb_pyramid` meets its contract. Assumes nothing.
 use mathlib.Core.Path.{ap, _∙_}
 use borrow.Author.Needs.{needs}
 use Rattle.mtb_c.specs.Status.{statusOf}
 use Rattle.mtb_c.proofs.levels.mtb_pyramid.Statement.{statement}
 use Rattle.mtb_c.proofs.levels.mtb_pyramid.Tie as tie
-
-mode-requires : tie.Need-mode-requires
-mode-requires c κs = search needs
-
-pyramid-requires : tie.Need-pyramid-requires
-pyramid-requires c κs = search needs
-
-status-requires : tie.Need-status-requires
-status-requires c κs = search needs
-
-same-length : tie.Need-same-length
-same-length c = search needs
 
 returns : tie.Need-returns
 returns c =
@@ -25,4 +12,9 @@ returns c =
 
 pub mtb-pyramid-spec : {M : Type 1} → statement M
 mtb-pyramid-spec =
-    tie.close (tie.spec mode-requires pyramid-requires status-requires same-length returns)
+    tie.close (tie.spec
+    (λ c κs. search needs)
+    (λ c κs. search needs)
+    (λ c κs. search needs)
+    (λ c. search needs)
+    returns)

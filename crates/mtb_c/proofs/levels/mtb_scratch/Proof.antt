@@ -1,4 +1,3 @@
--- `mtb_c::levels::mtb_scratch` meets its contract. Assumes nothing.
 use mathlib.Core.Path.{sym, ap, _∙_}
 use borrow.Author.Needs.{needs}
 use Rattle.definitions.specs.Align.{Need}
@@ -6,18 +5,6 @@ use Rattle.mtb_align.specs.Answers.{needAnswer}
 use Rattle.mtb_c.proofs.Slots.{status-accepted, stored, status-refused, kept}
 use Rattle.mtb_c.proofs.levels.mtb_scratch.Statement.{statement}
 use Rattle.mtb_c.proofs.levels.mtb_scratch.Tie as tie
-
-scratch-needed-requires : tie.Need-scratch-needed-requires
-scratch-needed-requires c κs = search needs
-
-enum-known-n : tie.Need-enum-known-n
-enum-known-n c = search needs
-
-enum-known-e : tie.Need-enum-known-e
-enum-known-e c = search needs
-
-number-requires : tie.Need-number-requires
-number-requires c κs = search needs
 
 returns : tie.Need-returns
 returns c =
@@ -32,4 +19,10 @@ returns-2 c =
 pub mtb-scratch-spec : {M : Type 1} → statement M
 mtb-scratch-spec =
     tie.close
-    (tie.spec scratch-needed-requires enum-known-n enum-known-e number-requires returns returns-2)
+    (tie.spec
+    (λ c κs. search needs)
+    (λ c. search needs)
+    (λ c. search needs)
+    (λ c κs. search needs)
+    returns
+    returns-2)

@@ -1,4 +1,3 @@
--- `mtb_c::moves::mtb_common_crop` meets its contract. Assumes nothing.
 use mathlib.Core.Path.{sym, ap, _∙_}
 use Rattle.definitions.specs.Geometry.{Rect}
 use Rattle.mtb_align.specs.Answers.{cropAnswer}
@@ -6,18 +5,6 @@ use Rattle.mtb_c.proofs.Slots.{status-accepted, stored, status-refused,
 use borrow.Author.Needs.{needs}
 use Rattle.mtb_c.proofs.moves.mtb_common_crop.Statement.{statement}
 use Rattle.mtb_c.proofs.moves.mtb_common_crop.Tie as tie
-
-common-crop-requires : tie.Need-common-crop-requires
-common-crop-requires c κs = search needs
-
-enum-known-r : tie.Need-enum-known-r
-enum-known-r c = search needs
-
-enum-known-e : tie.Need-enum-known-e
-enum-known-e c = search needs
-
-number-requires : tie.Need-number-requires
-number-requires c κs = search needs
 
 returns : tie.Need-returns
 returns c =
@@ -37,4 +24,10 @@ returns-2 c =
 pub mtb-common-crop-spec : {M : Type 1} → statement M
 mtb-common-crop-spec =
     tie.close
-    (tie.spec common-crop-requires enum-known-r enum-known-e number-requires returns returns-2)
+    (tie.spec
+    (λ c κs. search needs)
+    (λ c. search needs)
+    (λ c. search needs)
+    (λ c κs. search needs)
+    returns
+    returns-2)

@@ -1,4 +1,3 @@
--- `mtb_c::moves::mtb_doubled` meets its contract. Assumes nothing.
 use mathlib.Core.Path.{sym, ap, _∙_}
 use native.Mathlib.Omega.{arith}
 use mir.Syntax.{w32}
@@ -10,18 +9,6 @@ use Rattle.mtb_c.proofs.Slots.{status-accepted, stored, status-refused,
 use borrow.Author.Needs.{needs}
 use Rattle.mtb_c.proofs.moves.mtb_doubled.Statement.{statement}
 use Rattle.mtb_c.proofs.moves.mtb_doubled.Tie as tie
-
-doubled-requires : tie.Need-doubled-requires
-doubled-requires c κs = search needs
-
-enum-known-m : tie.Need-enum-known-m
-enum-known-m c = search needs
-
-enum-known-e : tie.Need-enum-known-e
-enum-known-e c = search needs
-
-number-requires : tie.Need-number-requires
-number-requires c κs = search needs
 
 returns : tie.Need-returns
 returns c =
@@ -41,4 +28,10 @@ returns-2 c =
 pub mtb-doubled-spec : {M : Type 1} → statement M
 mtb-doubled-spec =
     tie.close
-    (tie.spec doubled-requires enum-known-m enum-known-e number-requires returns returns-2)
+    (tie.spec
+    (λ c κs. search needs)
+    (λ c. search needs)
+    (λ c. search needs)
+    (λ c κs. search needs)
+    returns
+    returns-2)

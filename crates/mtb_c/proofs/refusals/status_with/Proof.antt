@@ -1,4 +1,3 @@
--- `mtb_c::refusals::status_with` meets its contract. Assumes nothing.
 use mathlib.Core.Path.{sym, ap, _∙_}
 use Rattle.mtb_align.specs.Answers.{outcome}
 use Rattle.mtb_align.specs.declared.error.Outcome.{Outcome}
@@ -6,21 +5,6 @@ use Rattle.mtb_c.specs.Status.{statusOf, valuesAfter}
 use borrow.Author.Needs.{needs}
 use Rattle.mtb_c.proofs.refusals.status_with.Statement.{statement}
 use Rattle.mtb_c.proofs.refusals.status_with.Tie as tie
-
-enum-told : tie.Need-enum-told
-enum-told c = search needs
-
-enum-known-o : tie.Need-enum-known-o
-enum-known-o c = search needs
-
-put-values-requires : tie.Need-put-values-requires
-put-values-requires c κs = search needs
-
-number-requires : tie.Need-number-requires
-number-requires c κs = search needs
-
-returns : tie.Need-returns
-returns c = search needs
 
 returns-2 : tie.Need-returns-2
 returns-2 c =
@@ -31,4 +15,10 @@ returns-2 c =
 pub status-with-spec : {M : Type 1} → statement M
 status-with-spec =
     tie.close
-    (tie.spec enum-told enum-known-o put-values-requires number-requires returns returns-2)
+    (tie.spec
+    (λ c. search needs)
+    (λ c. search needs)
+    (λ c κs. search needs)
+    (λ c κs. search needs)
+    (λ c. search needs)
+    returns-2)

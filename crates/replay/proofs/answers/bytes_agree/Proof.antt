@@ -1,4 +1,3 @@
--- `replay::answers::bytes_agree` meets its contract. Assumes nothing.
 use borrow.Author.Needs.{needs}
 use mathlib.Core.Path.{_≡_, sym, subst}
 use mathlib.Core.Bool.{Bool}
@@ -16,25 +15,10 @@ use Rattle.replay.proofs.answers.bytes_agree.Tie as tie
 by : {r : Bool} (numbers got : List ℕ) {o p : Outcome} → o ≡ p → Whether r (BytesAnswer numbers p got) → Whether r (BytesAnswer numbers o got)
 by {r} numbers got e w = subst (λ (x : Outcome). Whether r (BytesAnswer numbers x got)) (sym e) w
 
-enum-told : tie.Need-enum-told
-enum-told c = search needs
-
-bytes-listed-requires : tie.Need-bytes-listed-requires
-bytes-listed-requires c κs = search needs
-
-enum-known-answer : tie.Need-enum-known-answer
-enum-known-answer c = search needs
-
-refusal-agrees-requires : tie.Need-refusal-agrees-requires
-refusal-agrees-requires c κs = search needs
-
 returns : tie.Need-returns
 returns c =
     let a = c .before .before .before .before .before .before .before .args in
     by (a .numbers .now) (a .got .now) (c .before .before .before .answer .given .1) (no (λ h. refuted (c .before .refusal-agrees .ensures) (not-true _ (c .if1 .taken)) (h .0)))
-
-marked-bytes-requires : tie.Need-marked-bytes-requires
-marked-bytes-requires c κs = search needs
 
 returns-2 : tie.Need-returns-2
 returns-2 c =
@@ -50,11 +34,11 @@ pub bytes-agree-spec : {M : Type 1} → statement M
 bytes-agree-spec =
     tie.close
     (tie.spec
-    enum-told
-    bytes-listed-requires
-    enum-known-answer
-    refusal-agrees-requires
+    (λ c. search needs)
+    (λ c κs. search needs)
+    (λ c. search needs)
+    (λ c κs. search needs)
     returns
-    marked-bytes-requires
+    (λ c κs. search needs)
     returns-2
     returns-3)

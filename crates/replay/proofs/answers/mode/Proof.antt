@@ -1,4 +1,3 @@
--- `replay::answers::mode` meets its contract. Assumes nothing.
 use mathlib.Core.Path.{sym}
 use borrow.Author.Tests.{eq-eqb, ne-eqb}
 use Rattle.replay.proofs.Told.{chosen, passed}

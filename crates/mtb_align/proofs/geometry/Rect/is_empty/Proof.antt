@@ -1,4 +1,3 @@
--- `mtb_align::geometry::Rect::is_empty` meets its contract. Assumes nothing.
 use borrow.Author.Tests.{eq-eqb, ne-eqb}
 use Rattle.mtb_align.proofs.geometry.Rect.is_empty.Statement.{statement}
 use Rattle.mtb_align.proofs.geometry.Rect.is_empty.Tie as tie

@@ -1,4 +1,3 @@
--- `mtb_align::geometry::Shift::doubled` meets its contract. Assumes nothing.
 use mathlib.Core.Path.{ap, _∙_}
 use borrow.Author.Needs.{needs}
 use mir.Syntax.{w32}

@@ -1,4 +1,3 @@
--- `mtb_align::geometry::Shift::offset` meets its contract. Assumes nothing.
 use mathlib.Core.Path.{_≡_, sym, ap, _∙_}
 use mathlib.Core.Bool.{Bool, false, not}
 use borrow.Author.Needs.{needs}
@@ -8,9 +7,9 @@ use mir.Val.{SFits, toZ, ofZ}
 use mir.Facts.{toZ-ofZ}
 use Rattle.definitions.specs.Geometry.{inI32}
 use Rattle.definitions.specs.Refusals.{accepted, shiftChecks}
-use Rattle.laws.specs.Checks.{done}
-use Rattle.laws.specs.ChecksGeometry.{coordinate-stop, coordinate-skip}
-use Rattle.laws.specs.Machine.{read, fit, both, sum-fits, held}
+use Rattle.laws.specs.checks.Checks.{done}
+use Rattle.laws.specs.checks.ChecksGeometry.{coordinate-stop, coordinate-skip}
+use Rattle.laws.specs.general.Machine.{read, fit, both, sum-fits, held}
 use Rattle.mtb_align.proofs.geometry.Shift.offset.Statement.{statement}
 use Rattle.mtb_align.proofs.geometry.Shift.offset.Tie as tie
 

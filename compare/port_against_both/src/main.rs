@@ -1,0 +1,78 @@
+//! Holds the port against the original and the naive reading on seeded inputs, call
+//! by call, after one run of every call on a thread with little room, of reports at the
+//! same time, and of refused calls with closed outputs. Takes a seed, or
+//! none for the usual one. Ends at the first disagreement.
+
+mod claims;
+mod counts;
+mod frames;
+mod lent;
+mod levels;
+mod moves;
+mod parallel;
+mod report;
+mod sealed;
+mod search;
+mod threads;
+
+use std::fmt::Debug;
+use std::process::ExitCode;
+
+use naive::Refusal;
+use trials::{Call, Outcome, call, same};
+
+const CALLS: [Call; 20] = [
+    call("from_rgb", 3000, frames::from_rgb),
+    call("shrink2 average", 3000, frames::shrink2_average),
+    call("shrink2 subsample", 3000, frames::shrink2_subsample),
+    call("threshold", 4200, frames::threshold),
+    call("compute_bitmaps", 4200, frames::compute_bitmaps),
+    call("get", 4000, frames::get),
+    call("set", 4000, frames::set),
+    call("count_ones", 4000, frames::count_ones),
+    call("row", 4000, frames::row),
+    call("doubled", 4000, moves::doubled),
+    call("offset", 4000, moves::offset),
+    call("shifted", 4000, moves::shifted),
+    call("common_crop", 4000, moves::common_crop),
+    call("disagreement", 6000, counts::disagreement),
+    call("pyramid", 4000, levels::pyramid),
+    call("level", 4000, levels::level),
+    call("scratch", 4000, levels::scratch),
+    call("shift", 4000, search::shift),
+    call("align_stack", 4000, search::align_stack),
+    call("report", 4000, report::report),
+];
+
+fn main() -> ExitCode {
+    let first = [threads::run, parallel::run, sealed::run];
+    if let Err(wrong) = first.into_iter().try_for_each(|run| run()) {
+        println!("{wrong}");
+        return ExitCode::FAILURE;
+    }
+    trials::run(&CALLS, "port, naive and original")
+}
+
+/// Agreement of the port, by its status and what it has written, with the naive
+/// reading on every input and with the original where it has an answer. It is asked
+/// only about what is accepted.
+fn agreed<T: PartialEq + Debug>(
+    input: &str,
+    (status, written): (u32, T),
+    naive: Result<T, Refusal>,
+    original: Option<impl FnOnce() -> Result<T, Refusal>>,
+) -> Outcome {
+    let number = |refusal: Refusal| refusal.number;
+    let port = match status {
+        0 => Ok(written),
+        refused => Err(refused),
+    };
+    same(input, ("port", &port), ("naive", &naive.map_err(number)))?;
+    match original {
+        Some(original) if port.is_ok() => {
+            let original = original().map_err(number);
+            same(input, ("port", &port), ("original", &original))
+        }
+        _ => Ok(()),
+    }
+}

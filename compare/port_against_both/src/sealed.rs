@@ -1,0 +1,219 @@
+//! Refused calls whose outputs lie where nothing can be read or written, so that they
+//! may hold anything, or nothing yet.
+
+use std::cell::Cell;
+use std::ffi::c_void;
+use std::io::Write;
+
+use port::refusals::{
+    COORDINATE_OUTSIDE, HIGHEST_PERCENTILE, NO_PERCENTILE, NO_SUCH_REFERENCE, PADDING_SET,
+    PIXEL_OUTSIDE, RECORD_SPACE_TOO_SHORT, SCRATCH_TOO_SHORT, SIDE_TOO_LONG, SIZES_DIFFER,
+    WRONG_LENGTH,
+};
+use port::report::{Report, report};
+use port::{Bitmap, Frame, Options, Pair, RECORD_BYTES, Rivalry, Shift, Shrink, Stack, Values};
+use port::{counts, frames, levels, moves, search};
+use trials::Outcome;
+use trials::inputs::TOO_LONG;
+
+/// A stretch of memory that is closed to reading and writing.
+struct Sealed {
+    next: Cell<*mut u8>,
+}
+
+impl Sealed {
+    fn new() -> Self {
+        unsafe extern "C" {
+            fn mmap(
+                at: *mut c_void,
+                length: usize,
+                protection: i32,
+                flags: i32,
+                file: i32,
+                offset: i64,
+            ) -> *mut c_void;
+        }
+        const CLOSED: i32 = 0; // PROT_NONE
+        const OWN: i32 = 0x22; // MAP_PRIVATE and MAP_ANONYMOUS on Linux
+        let memory = unsafe { mmap(std::ptr::null_mut(), 1 << 20, CLOSED, OWN, -1, 0) };
+        assert_ne!(memory.addr(), usize::MAX, "no memory to seal");
+        Self {
+            next: Cell::new(memory.cast()),
+        }
+    }
+
+    /// A list of its own, which is only passed on.
+    fn list<T>(&self, length: usize) -> &'static mut [T] {
+        let at = self.next.get();
+        self.next.set(at.wrapping_add(4096));
+        unsafe { std::slice::from_raw_parts_mut(at.cast(), length) }
+    }
+
+    fn one<T>(&self) -> &'static mut T {
+        &mut self.list(1)[0]
+    }
+
+    fn values(&self) -> &'static mut [usize; 5] {
+        self.list(5).try_into().expect("five of them")
+    }
+}
+
+const OPTIONS: Options = Options::USUAL;
+/// Nine rivals in a pair.
+const RIVALRY: Rivalry = Rivalry {
+    reach: 1,
+    floor: 0,
+    margin: 0,
+};
+
+/// Names each call before it is made: where an output is touched, the program ends.
+pub fn run() -> Outcome {
+    let sealed = &Sealed::new();
+    let samples = [7; 32];
+    let frame = Frame::new(&samples[..16], 4, 4);
+    let small = Frame::new(&samples[..9], 3, 3);
+    let stack = |reference| Stack {
+        samples: &samples,
+        widths: &[4; 2],
+        heights: &[4; 2],
+        reference,
+    };
+    let pair = |words, width| Pair {
+        threshold: words,
+        exclusion: words,
+        width,
+        height: 1,
+    };
+    let far = Shift::new(i32::MAX, 0);
+    let crop = || [(); 4].map(|()| sealed.one());
+    let scratch = |bytes| (sealed.list(bytes), sealed.list(16));
+    let written = |shifts, records| Report {
+        shifts: sealed.list(shifts),
+        verdicts: sealed.list(2),
+        records: sealed.list(records),
+        crop: crop(),
+        count: sealed.one(),
+    };
+    let records = RIVALRY.window() * RECORD_BYTES;
+    let reported = |reference, written, scratch: (&mut [u8], &mut [u64]), values: &mut Values| {
+        report(
+            stack(reference),
+            &OPTIONS,
+            &RIVALRY,
+            written,
+            scratch,
+            values,
+        )
+    };
+
+    let calls: [(&str, u32, &dyn Fn() -> u32); 25] = [
+        ("from_rgb", SIDE_TOO_LONG, &|| {
+            frames::from_rgb(&[], TOO_LONG, 0, sealed.list(0))
+        }),
+        ("from_rgb", WRONG_LENGTH, &|| {
+            frames::from_rgb(&samples[..3], 1, 1, sealed.list(2))
+        }),
+        ("shrink2", WRONG_LENGTH, &|| {
+            frames::shrink2(frame, Shrink::Average, sealed.list(5))
+        }),
+        ("threshold", NO_PERCENTILE, &|| {
+            frames::threshold(frame, HIGHEST_PERCENTILE + 1, sealed.one())
+        }),
+        ("compute_bitmaps", NO_PERCENTILE, &|| {
+            frames::compute_bitmaps(
+                frame,
+                HIGHEST_PERCENTILE + 1,
+                4,
+                sealed.list(4),
+                sealed.list(4),
+            )
+        }),
+        ("get", PIXEL_OUTSIDE, &|| {
+            frames::get(Bitmap::new(&[1], 3, 1), 3, 0, sealed.one())
+        }),
+        ("set", PIXEL_OUTSIDE, &|| {
+            frames::set(sealed.list(1), 3, 1, 3, 0, true)
+        }),
+        ("count_ones", PADDING_SET, &|| {
+            frames::count_ones(Bitmap::new(&[8], 3, 1), sealed.one())
+        }),
+        ("doubled", COORDINATE_OUTSIDE, &|| {
+            moves::doubled(far, sealed.one(), sealed.one())
+        }),
+        ("offset", COORDINATE_OUTSIDE, &|| {
+            moves::offset(far, 1, 0, sealed.one(), sealed.one())
+        }),
+        ("shifted", WRONG_LENGTH, &|| {
+            moves::shifted(frame, far, sealed.list(15))
+        }),
+        ("common_crop", WRONG_LENGTH, &|| {
+            moves::common_crop(&[5], 4, 4, crop())
+        }),
+        ("disagreement", PADDING_SET, &|| {
+            let (one, other) = (pair(&[7], 3), pair(&[8], 3));
+            counts::disagreement(one, other, far, sealed.one(), sealed.one(), sealed.values())
+        }),
+        ("disagreement", SIZES_DIFFER, &|| {
+            let (one, other) = (pair(&[7], 3), pair(&[7], 4));
+            counts::disagreement(one, other, far, sealed.one(), sealed.one(), &mut [0; 5])
+        }),
+        ("pyramid", SCRATCH_TOO_SHORT, &|| {
+            levels::pyramid(frame, 6, Shrink::Average, sealed.list(3))
+        }),
+        ("scratch", SIDE_TOO_LONG, &|| {
+            levels::scratch(TOO_LONG, 1, 6, sealed.one(), sealed.one())
+        }),
+        ("shift", SCRATCH_TOO_SHORT, &|| {
+            let (step, count) = ((sealed.one(), sealed.one()), sealed.one());
+            search::shift(
+                frame,
+                frame,
+                &OPTIONS,
+                scratch(7),
+                step,
+                count,
+                sealed.values(),
+            )
+        }),
+        ("shift", SIZES_DIFFER, &|| {
+            let (step, count) = ((sealed.one(), sealed.one()), sealed.one());
+            search::shift(frame, small, &OPTIONS, scratch(8), step, count, &mut [0; 5])
+        }),
+        ("align_stack", SCRATCH_TOO_SHORT, &|| {
+            let shifts = sealed.list(4);
+            search::align_stack(stack(0), &OPTIONS, shifts, scratch(7), sealed.values())
+        }),
+        ("align_stack", NO_SUCH_REFERENCE, &|| {
+            let shifts = sealed.list(4);
+            search::align_stack(stack(2), &OPTIONS, shifts, scratch(8), &mut [0; 5])
+        }),
+        ("report", WRONG_LENGTH, &|| {
+            reported(0, written(3, records), scratch(8), sealed.values())
+        }),
+        ("report", SCRATCH_TOO_SHORT, &|| {
+            reported(0, written(4, records), scratch(7), sealed.values())
+        }),
+        ("report", NO_SUCH_REFERENCE, &|| {
+            reported(2, written(4, records), scratch(8), &mut [0; 5])
+        }),
+        ("report", RECORD_SPACE_TOO_SHORT, &|| {
+            let scratch = (&mut [0; 8][..], &mut [0; 16][..]);
+            reported(0, written(4, records - 1), scratch, &mut [0; 5])
+        }),
+        ("report", RECORD_SPACE_TOO_SHORT, &|| {
+            let scratch = (&mut [0; 8][..], &mut [0; 16][..]);
+            reported(0, written(4, 0), scratch, &mut [0; 5])
+        }),
+    ];
+    print!("refused without a touch of an output:");
+    for (call, number, made) in calls {
+        print!(" {call} by {number};");
+        std::io::stdout().flush().expect("there is an output");
+        let status = made();
+        if status != number {
+            return Err(format!(" refused by {status}"));
+        }
+    }
+    println!();
+    Ok(())
+}

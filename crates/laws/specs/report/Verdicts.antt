@@ -1,0 +1,115 @@
+-- What each verdict of a report says of a frame and its rivals.
+use mathlib.Core.Path.{_≡_, refl, ap}
+use mathlib.Core.Bool.{cond}
+use mathlib.Core.Logic.{_↔_, _⊎_, inl, inr, ⊎-elim}
+use mathlib.Core.List.{List·Memᴰ}
+use Prim.Native.Nat.{ℕ, _≤_, _<_}
+use native.Mathlib.Omega.{arith}
+use borrow.Author.Tests.{lt-ltb, le-ltb, eq-eqb, ne-eqb}
+use lib.Dec.{ltb, eqb}
+use lib.IntN.{ℤ, natAbs, _-ℤ_, +ℤ-invr}
+use lib.ListN.{length}
+use Rattle.definitions.specs.Geometry.{Shift}
+use Rattle.definitions.specs.Align.{Stack, stepOf}
+use Rattle.definitions.specs.Report.{Terms, frameCounts, limitOf, RivalOf, rivals, verdict}
+use Rattle.laws.specs.general.Cases.{lt-or-le, eq-or-ne}
+use Rattle.laws.specs.general.Members.{of-one, ordered-alone, ordered-another}
+use Rattle.laws.specs.report.Records.{rivals-rival, rival-rivals, rivals-in-order}
+use Rattle.laws.specs.report.Windows.{Earlier, earlier-not-self}
+
+-- 0: the reference
+pub verdict-reference : (a : Stack) (q : Terms) → verdict a q (a .reference) ≡ 0
+unfolding verdict
+verdict-reference a q = simp (eq-eqb (a .reference) (a .reference) refl)
+
+-- every coordinate is within any reach of itself
+self-within : (z : ℤ) (r : ℕ) → natAbs (z -ℤ z) ≤ r
+self-within z r = let e : natAbs (z -ℤ z) ≡ 0 = ap natAbs (+ℤ-invr z) in omega arith
+
+-- how many pixels the step of frame k compares
+abbrev stepCompares : Stack → ℕ → ℕ
+stepCompares a k = frameCounts a k (stepOf a k) .compared
+
+-- another frame's verdict, by that and by the number of its rivals
+pub verdict-other : (a : Stack) (q : Terms) (k : ℕ) → (k ≡ a .reference → ⊥)
+    → verdict a q k ≡ cond (ltb (frameCounts a k (stepOf a k) .compared) (q .floor)) 1 (cond (eqb (length (rivals a q k)) 1) 2 3)
+unfolding verdict
+verdict-other a q k apart = simp (ne-eqb k (a .reference) apart)
+
+-- a step that compares at least the floor is a rival
+pub step-rival : (a : Stack) (q : Terms) (k : ℕ) → q .floor ≤ frameCounts a k (stepOf a k) .compared → RivalOf a q k (stepOf a k)
+unfolding limitOf
+step-rival a q k l = record {
+  across = self-within (stepOf a k .x) (q .reach);
+  down = self-within (stepOf a k .y) (q .reach);
+  compares = l;
+  disagrees = omega arith;
+}
+
+-- the three ways of a frame that is not the reference, each with its verdict: the step compares too little, or it is a rival, with or
+-- without others
+data Way (a : Stack) (q : Terms) (k : ℕ) : Type 0 where
+  weak : stepCompares a k < q .floor → verdict a q k ≡ 1 → Way a q k
+  lone : q .floor ≤ stepCompares a k → length (rivals a q k) ≡ 1 → verdict a q k ≡ 2 → Way a q k
+  many : q .floor ≤ stepCompares a k → (length (rivals a q k) ≡ 1 → ⊥) → verdict a q k ≡ 3 → Way a q k
+
+module _ (a : Stack) (q : Terms) (k : ℕ) (ne : k ≡ a .reference → ⊥) where
+  -- one of the three
+  way : Way a q k
+  way =
+      let c : ℕ = stepCompares a k in
+      let n : ℕ = length (rivals a q k) in
+      let other = verdict-other a q k ne in
+      ⊎-elim
+      (λ (l : c < q .floor). weak l (simp (other, lt-ltb c (q .floor) l)))
+      (λ (l : q .floor ≤ c).
+      ⊎-elim
+      (λ (e : n ≡ 1). lone l e (simp (other, le-ltb c (q .floor) l, eq-eqb n 1 e)))
+      (λ (e : n ≡ 1 → ⊥). many l e (simp (other, le-ltb c (q .floor) l, ne-eqb n 1 e)))
+      (eq-or-ne n 1))
+      (lt-or-le c (q .floor))
+
+  -- a rival is one of the rivals
+  listed : (s : Shift) → RivalOf a q k s → List·Memᴰ s (rivals a q k)
+  listed = rival-rivals a q k ne
+
+  -- the verdict is 1, 2 or 3
+  pub verdict-cases : (verdict a q k ≡ 1) ⊎ (verdict a q k ≡ 2) ⊎ (verdict a q k ≡ 3)
+  verdict-cases = elim way [ weak l v ↦ inl v | lone l n v ↦ inr (inl v) | many l n v ↦ inr (inr v) ]
+
+  -- 1: the step compares fewer than the floor, so that it is no rival
+  pub weak-means : (verdict a q k ≡ 1) ↔ (frameCounts a k (stepOf a k) .compared < q .floor)
+  weak-means = elim way [
+    | weak l v ↦ (λ e. l, λ h. v)
+    | lone l n v ↦ (λ e. omega arith, λ h. omega arith)
+    | many l n v ↦ (λ e. omega arith, λ h. omega arith)
+  ]
+
+  pub weak-no-rival : (verdict a q k ≡ 1) ↔ (RivalOf a q k (stepOf a k) → ⊥)
+  weak-no-rival = elim way [
+    | weak l v ↦ (λ e r. omega arith, λ h. v)
+    | lone l n v ↦ (λ e. omega arith, λ h. absurd (h (step-rival a q k l)))
+    | many l n v ↦ (λ e. omega arith, λ h. absurd (h (step-rival a q k l)))
+  ]
+
+  -- 2: the step is a rival and there is no other
+  pub alone-means : (verdict a q k ≡ 2) ↔ (RivalOf a q k (stepOf a k) × ((s : Shift) → RivalOf a q k s → s ≡ stepOf a k))
+  alone-means = elim way [
+    | weak l v ↦ (λ e. absurd (omega arith), λ h. omega (arith, h .0 .compares))
+    | lone l n v ↦ let r = step-rival a q k l in (λ e. (r, λ s h. of-one (rivals a q k) n (listed s h) (listed (stepOf a k) r)), λ h. v)
+    | many l n v ↦ (
+      λ e. absurd (omega arith),
+      λ h. absurd (n (ordered-alone Earlier earlier-not-self (rivals-in-order a q k) (listed (stepOf a k) (h .0)) (λ s m. h .1 s (rivals-rival a q k s m .1)))),
+    )
+  ]
+
+  -- 3: the step is a rival and so is another shift
+  pub contested-means : (verdict a q k ≡ 3) ↔ (RivalOf a q k (stepOf a k) × ((s : Shift) × RivalOf a q k s × (s ≡ stepOf a k → ⊥)))
+  contested-means = elim way [
+    | weak l v ↦ (λ e. absurd (omega arith), λ h. omega (arith, h .0 .compares))
+    | lone l n v ↦ (λ e. absurd (omega arith), λ h. absurd (h .1 .2 (of-one (rivals a q k) n (listed (h .1 .0) (h .1 .1)) (listed (stepOf a k) (h .0)))))
+    | many l n v ↦
+        let r = step-rival a q k l in
+        let t = ordered-another Earlier earlier-not-self (rivals-in-order a q k) (listed (stepOf a k) r) n in
+        (λ e. (r, (t .0, rivals-rival a q k (t .0) (t .1) .1, t .2)), λ h. v)
+  ]
