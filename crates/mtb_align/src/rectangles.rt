@@ -1,7 +1,7 @@
 // Rectangles of words of the reference against those of the target, which are all that rows at a shift have in common.
 use super::bitmap::WORD_BITS;
 use super::difference::Counts;
-use super::words::edge_run;
+use super::words::edge_column;
 use super::words::spanned_run;
 use super::words::spanned_sevens;
 use super::words::whole_run;
@@ -253,12 +253,12 @@ pub(crate) fn moved(
     }
     if m > 0 {
         let inner = rectangle(rt, re, st, se, n, i + m, j + q, rows, n - m, bit);
-        let edge = edge_run(rt, re, st, se, i + (m - 1), j, n, rows, 0, WORD_BITS - bit);
+        let edge = edge_column(rt, re, st, se, i + (m - 1), j, n, rows, 0, WORD_BITS - bit);
         return together(inner, edge);
     }
     let last = n - 1;
     let columns = last - q;
     let inner = rectangle(rt, re, st, se, n, i + m, j + q, rows, columns, bit);
-    let edge = edge_run(rt, re, st, se, i + columns, j + last, n, rows, bit, 0);
+    let edge = edge_column(rt, re, st, se, i + columns, j + last, n, rows, bit, 0);
     together(inner, edge)
 }

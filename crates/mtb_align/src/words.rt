@@ -7,17 +7,19 @@ use super::difference::Counts;
 use super::ones::ones_of;
 use super::ones::ones_of_seven;
 ghost use mathlib.Core.Path.{_≡_};
-ghost use Prim.Native.Nat.{_+_, _*_, _≤_, _<_};
+ghost use Prim.Native.Nat.{_+_, _*_, _/_, _%_, _^_, _≤_, _<_};
+ghost use lib.Bits.{bitOr};
 ghost use lib.ListN.{length};
 ghost use Rattle.laws.specs.bitmaps.Joints.{Alike, Reaches, LinesReach, Counted, Showing, spanned, edged, runSum, linesSum};
-ghost use Rattle.laws.specs.bitmaps.Moved.{funnel, part};
+ghost use Rattle.laws.specs.bitmaps.Moved.{part};
 
-// The word that starts `bit` columns up in `lo`, with `hi` the word after it.
-fn funnelled(lo: u64, hi: u64, bit: usize) -> u64
-    requires { ⌜ (0 < bit) × (bit < 64) ⌝ }
-    ensures { λ r. ⌜ r ≡ funnel lo hi bit ⌝ }
+// The word that starts `down` columns up in `lo`, with `hi` the word after it; `up` is what is left of 64. Were it made here, LLVM would
+// make one instruction of both shifts, which takes longer.
+fn funnelled(lo: u64, hi: u64, down: usize, up: usize) -> u64
+    requires { ⌜ (down < 64) × (up < 64) ⌝ }
+    ensures { λ r. ⌜ r ≡ bitOr (lo / 2 ^ down) ((hi * 2 ^ up) % 2 ^ 64) ⌝ }
 {
-    (lo >> bit) | (hi << (WORD_BITS - bit))
+    (lo >> down) | (hi << up)
 }
 
 // What is left of a word that is shifted down and then up.
@@ -62,8 +64,9 @@ fn spanned_word(
         ⌝ }
 {
     let next = from + 1;
-    let both = re[at] & funnelled(se[from], se[next], bit);
-    let odd = (rt[at] ^ funnelled(st[from], st[next], bit)) & both;
+    let up = WORD_BITS - bit;
+    let both = re[at] & funnelled(se[from], se[next], bit, up);
+    let odd = (rt[at] ^ funnelled(st[from], st[next], bit, up)) & both;
     Shown { both, odd }
 }
 
@@ -164,7 +167,7 @@ pub(crate) fn spanned_run(
 }
 
 // The same where each word shows a part of one word of the target.
-pub(crate) fn edge_run(
+fn edge_run(
     rt: &[u64],
     re: &[u64],
     st: &[u64],
@@ -200,6 +203,33 @@ pub(crate) fn edge_run(
         disagreeing,
         compared,
     }
+}
+
+// The same, at a step that LLVM knows where it is 1, as in a frame of one word a row: the words then follow each other and are read by
+// vectors.
+pub(crate) fn edge_column(
+    rt: &[u64],
+    re: &[u64],
+    st: &[u64],
+    se: &[u64],
+    i: usize,
+    j: usize,
+    step: usize,
+    len: usize,
+    down: usize,
+    up: usize,
+) -> Counts
+    requires { ⌜
+        Alike (now rt) (now re) (now st) (now se) × Reaches (length (now re)) 0 i j step len × (step ≤ 8192) × (len ≤ 8192) × (down < 64) × (up < 64)
+        ⌝ }
+    ensures { λ r. ⌜
+        Counted (runSum (edged down up) (now (rt .entry)) (now (re .entry)) (now (st .entry)) (now (se .entry)) i j step len) (len * 64) (r .compared) (r .disagreeing)
+        ⌝ }
+{
+    if step == 1 {
+        return edge_run(rt, re, st, se, i, j, 1, len, down, up);
+    }
+    edge_run(rt, re, st, se, i, j, step, len, down, up)
 }
 
 // Word k of seven, `apart` from one to the next.

@@ -21,8 +21,8 @@ rectangle-requires c κs =
     let p = c .before .before .before .before .before .before .pre in
     (p .0, rectangle-inside _ _ _ _ _ _ _ (omega arith) (omega arith), p .1, p .2, omega arith, p .8, omega (arith, p .0 .small), omega (arith, p .0 .small))
 
-edge-run-requires : tie.Need-edge-run-requires
-edge-run-requires c κs =
+edge-column-requires : tie.Need-edge-column-requires
+edge-column-requires c κs =
     let p = c .before .before .before .before .before .before .before .pre in
     (p .0, column-inside _ _ _ _ _ (omega arith) (omega arith), omega arith, p .2, omega arith, omega arith)
 
@@ -32,15 +32,15 @@ returns-2 c =
     let x = s .args in
     let p = s .pre in
     moved-right (x .rt .now) (x .re .now) (x .st .now) (x .se .now) (x .n) (x .rows) (x .i) (x .j) (x .m) (x .q) (x .bit) (p .2) (c .together .ensures)
-    (c .before .before .before .if2 .taken) (p .5) (p .6) (omega arith) (c .before .before .rectangle .ensures) (c .before .edge-run .ensures)
+    (c .before .before .before .if2 .taken) (p .5) (p .6) (omega arith) (c .before .before .rectangle .ensures) (c .before .edge-column .ensures)
 
 rectangle-requires-2 : tie.Need-rectangle-requires-2
 rectangle-requires-2 c κs =
     let p = c .before .before .before .before .before .before .pre in
     (p .0, rectangle-inside _ _ _ _ _ _ _ (omega arith) (omega arith), p .1, p .2, omega arith, p .8, omega (arith, p .0 .small), omega (arith, p .0 .small))
 
-edge-run-requires-2 : tie.Need-edge-run-requires-2
-edge-run-requires-2 c κs =
+edge-column-requires-2 : tie.Need-edge-column-requires-2
+edge-column-requires-2 c κs =
     let p = c .before .before .before .before .before .before .before .pre in
     (p .0, column-inside _ _ _ _ _ (omega arith) (omega arith), omega arith, p .2, p .8, omega arith)
 
@@ -52,7 +52,7 @@ returns-3 c =
     let ft : (v : ℕ) → getD (x .st .now) v 0 < 2 ^ 64 = λ v. omega (arith, c .before .before .before .before .before .before .shared-slice-known3 .given v) in
     let fe : (v : ℕ) → getD (x .se .now) v 0 < 2 ^ 64 = λ v. omega (arith, c .before .before .before .before .before .shared-slice-known4 .given v) in
     moved-left (x .rt .now) (x .re .now) (x .st .now) (x .se .now) (x .n) (x .rows) (x .i) (x .j) (x .m) (x .q) (x .bit) (p .2) (c .together2 .ensures)
-    (c .before .before .before .if2 .left) (p .7) ft fe (c .before .before .rectangle2 .ensures) (c .before .edge-run2 .ensures)
+    (c .before .before .before .if2 .left) (p .7) ft fe (c .before .before .rectangle2 .ensures) (c .before .edge-column2 .ensures)
 
 pub moved-spec : {M : Type 1} → statement M
 moved-spec =
@@ -67,7 +67,7 @@ moved-spec =
     (λ c. omega arith)
     (λ c. omega arith)
     (λ c. omega arith)
-    edge-run-requires
+    edge-column-requires
     (λ c κs. omega arith)
     returns-2
     (λ c. omega arith)
@@ -77,6 +77,6 @@ moved-spec =
     rectangle-requires-2
     (λ c. omega arith)
     (λ c. omega arith)
-    edge-run-requires-2
+    edge-column-requires-2
     (λ c κs. omega arith)
     returns-3)
