@@ -1,7 +1,7 @@
 // Rectangles of words of the reference against those of the target, which are all that rows at a shift have in common.
 use super::bitmap::WORD_BITS;
 use super::difference::Counts;
-use super::words::edge_column;
+use super::words::edge_run;
 use super::words::spanned_run;
 use super::words::spanned_sevens;
 use super::words::whole_run;
@@ -9,7 +9,7 @@ use super::words::whole_sevens;
 ghost use mathlib.Core.Path.{_≡_};
 ghost use Prim.Native.Nat.{_+_, _*_, _≤_, _<_, min};
 ghost use lib.ListN.{length};
-ghost use Rattle.laws.specs.bitmaps.Joints.{Alike, Reaches, LinesReach, Counted, spanned, runSum, linesSum};
+ghost use Rattle.laws.specs.bitmaps.Joints.{Alike, Reaches, LinesReach, Counted, spanned, edged, runSum, linesSum};
 ghost use Rattle.laws.specs.bitmaps.MovedRows.{movedRows};
 
 // Two counts together.
@@ -84,6 +84,33 @@ fn run(
         return whole_run(rt, re, st, se, i, j, step, len);
     }
     spanned_run(rt, re, st, se, i, j, step, len, bit)
+}
+
+// Both counts of a run where each word shows a part of one word of the target. In a frame of one word a row the words follow each other;
+// LLVM has to see that step as 1 to read them by vectors.
+fn edge_column(
+    rt: &[u64],
+    re: &[u64],
+    st: &[u64],
+    se: &[u64],
+    i: usize,
+    j: usize,
+    step: usize,
+    len: usize,
+    down: usize,
+    up: usize,
+) -> Counts
+    requires { ⌜
+        Alike (now rt) (now re) (now st) (now se) × Reaches (length (now re)) 0 i j step len × (step ≤ 8192) × (len ≤ 8192) × (down < 64) × (up < 64)
+        ⌝ }
+    ensures { λ r. ⌜
+        Counted (runSum (edged down up) (now (rt .entry)) (now (re .entry)) (now (st .entry)) (now (se .entry)) i j step len) (len * 64) (r .compared) (r .disagreeing)
+        ⌝ }
+{
+    if step == 1 {
+        return edge_run(rt, re, st, se, i, j, 1, len, down, up);
+    }
+    edge_run(rt, re, st, se, i, j, step, len, down, up)
 }
 
 // Both counts of so many runs, each `apart` words after the one before it.

@@ -167,7 +167,7 @@ pub(crate) fn spanned_run(
 }
 
 // The same where each word shows a part of one word of the target.
-fn edge_run(
+pub(crate) fn edge_run(
     rt: &[u64],
     re: &[u64],
     st: &[u64],
@@ -203,33 +203,6 @@ fn edge_run(
         disagreeing,
         compared,
     }
-}
-
-// The same, at a step that LLVM knows where it is 1, as in a frame of one word a row: the words then follow each other and are read by
-// vectors.
-pub(crate) fn edge_column(
-    rt: &[u64],
-    re: &[u64],
-    st: &[u64],
-    se: &[u64],
-    i: usize,
-    j: usize,
-    step: usize,
-    len: usize,
-    down: usize,
-    up: usize,
-) -> Counts
-    requires { ⌜
-        Alike (now rt) (now re) (now st) (now se) × Reaches (length (now re)) 0 i j step len × (step ≤ 8192) × (len ≤ 8192) × (down < 64) × (up < 64)
-        ⌝ }
-    ensures { λ r. ⌜
-        Counted (runSum (edged down up) (now (rt .entry)) (now (re .entry)) (now (st .entry)) (now (se .entry)) i j step len) (len * 64) (r .compared) (r .disagreeing)
-        ⌝ }
-{
-    if step == 1 {
-        return edge_run(rt, re, st, se, i, j, 1, len, down, up);
-    }
-    edge_run(rt, re, st, se, i, j, step, len, down, up)
 }
 
 // Word k of seven, `apart` from one to the next.

@@ -3,8 +3,8 @@ use Prim.Native.Nat.{ℕ}
 use native.Mathlib.Omega.{arith}
 use lib.ListN.{length}
 use Rattle.laws.specs.bitmaps.Joints.{Reaches, edged, runSum, counted-at}
-use Rattle.mtb_align.proofs.words.edge_column.Statement.{statement}
-use Rattle.mtb_align.proofs.words.edge_column.Tie as tie
+use Rattle.mtb_align.proofs.rectangles.edge_column.Statement.{statement}
+use Rattle.mtb_align.proofs.rectangles.edge_column.Tie as tie
 
 edge-run-requires : tie.Need-edge-run-requires
 edge-run-requires c κs =
