@@ -17,16 +17,25 @@ at_hand() { # EXAMPLE PROGRAM...
   done
 }
 
-# The texts of stacksteps, for every input that it reports on.
+# The texts of stacksteps, for every input that it reports on, and those at a longer reach.
 report_prints_the_texts() { # NAME
-  local input text count=0
+  local input text reach count=0 farther=0
   for input in crates/stacksteps/stdin compare/vectors/data/stacksteps/*.stdin; do
     text=${input%stdin}stdout
     grep -q '^frames ' "$text" || continue
-    "$room/report" 64 64 1 <"$input" | cmp - "$text" || { echo "$1: prints another text than $text"; exit 1; }
+    report_prints "$1" 1 "$input" "$text"
     count=$((count + 1))
   done
-  echo "$1: prints the text of stacksteps for $count inputs, byte for byte"
+  for text in compare/vectors/data/stacksteps/*.reach_*.stdout; do
+    reach=${text##*.reach_}
+    report_prints "$1" "${reach%.stdout}" "${text%.reach_*}.stdin" "$text"
+    farther=$((farther + 1))
+  done
+  echo "$1: prints the text of stacksteps for $count inputs and $farther texts at a longer reach, byte for byte"
+}
+
+report_prints() { # NAME REACH INPUT TEXT
+  "$room/report" 64 64 "$2" <"$3" | cmp - "$4" || { echo "$1: prints another text than $4"; exit 1; }
 }
 
 # Calibration card D.

@@ -1,5 +1,5 @@
 /*
- * mtb.h: image registration by median threshold bitmaps, every call proved. Version 1.0.0.
+ * mtb.h: image registration by median threshold bitmaps, every call proved. Version 2.0.0.
  *
  * Link libmtb_c.a, which `rt staticlib mtb_c` writes to target/staticlib (x86-64). docs/CALLS.md has each call in full.
  *
@@ -33,7 +33,7 @@
 extern "C" {
 #endif
 
-#define MTB_VERSION "1.0.0"
+#define MTB_VERSION "2.0.0"
 
 /* Limits. */
 #define MTB_MOST_SIDE 8192
@@ -184,25 +184,28 @@ uint32_t mtb_align_stack(const size_t *widths, size_t widths_length, const size_
                          uint8_t *bytes, size_t bytes_length, uint64_t *words, size_t words_length,
                          size_t values[5]);
 
-/* A frame's verdict. It speaks of the shifts within reach of the frame's step and of no other: a rival that lies farther is not looked for.
+/* A frame's verdict. It speaks of the shifts within reach of the frame's step and of no other: a rival that lies farther is not looked for. Nor
+   does it speak of the eight shifts around the step, of which one may fit as well, or better.
    A frame's total shift is to be trusted only if every frame from it to the reference, itself among them, is alone. */
 enum mtb_verdict {
     MTB_REFERENCE = 0, /* the reference; it does not move */
     MTB_WEAK = 1,      /* the step compares fewer than floor pixels: its shift is no measurement */
-    MTB_ALONE = 2,     /* the step is the only rival within reach */
-    MTB_CONTESTED = 3  /* the step is a rival, and so is another shift within reach */
+    MTB_ALONE = 2,     /* the step is the only rival within reach: every shift two or more pixels away compares too few or disagrees in too many */
+    MTB_CONTESTED = 3  /* the step is a rival, and so is another shift within reach, two or more pixels away */
 };
 
 /* A record: 20 bytes, five numbers of 32 bits, low byte first: frame, x, y, disagreeing, compared. x and y are signed (two's complement)
    and relative to the frame's neighbour, as a step is, while `shifts` has totals. Frames rise, then y, then x. */
 #define MTB_RECORD 20
 
-/* The bytes that the records of a report can take at most: 4,992,300 for 16 frames and reach 64. */
+/* Bytes that are enough for the records of any report: 4,992,300 for 16 frames and reach 64. At most so many: the eight shifts around each
+   step, which are no rivals, are counted in. */
 #define MTB_RECORD_SPACE(frames, reach) \
     ((size_t)MTB_RECORD * ((frames) > 0 ? (size_t)(frames) - 1 : 0) * (2 * (size_t)(reach) + 1) * (2 * (size_t)(reach) + 1))
 
 /* The stack with every rival of each frame's step: a shift within reach of the step on both axes that compares at least floor pixels and
-   disagrees in at most margin more than the step. The step is a rival itself, unless the frame is weak; the reference has none. reach is 0 to 64,
+   disagrees in at most margin more than the step, and is not one of the eight shifts around the step. The step is a rival itself, unless the
+   frame is weak; the reference has none. At reach 0 and 1 only the step can be one, so that no frame is contested. reach is 0 to 64,
    floor and margin are any numbers of pixels. Lists and scratch are those of mtb_align_stack; verdicts has one entry a frame. A record
    space of length 0 asks how many records there are: refused by 10 if there is one.
    Refused: as the stack, with verdicts after shifts in the last 2 and 9 before 7; 10. Writes shifts, verdicts, the crop of the shifts (left, top,

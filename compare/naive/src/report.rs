@@ -9,7 +9,8 @@ use crate::refusals::{
 };
 use crate::threshold::BitFrame;
 
-/// What makes a shift a rival of a frame's step.
+/// What makes a shift a rival of a frame's step. The step itself can be one, a neighbour
+/// shift cannot.
 #[derive(Clone, Copy, Debug)]
 pub struct Rivalry {
     /// How far from the step it may lie on either axis.
@@ -21,10 +22,21 @@ pub struct Rivalry {
 }
 
 impl Rivalry {
-    /// How many shifts lie within reach.
-    pub const fn window(&self) -> usize {
-        (2 * self.reach as usize + 1).pow(2)
+    /// How many rivals a frame can have: all shifts within reach but the eight neighbour
+    /// shifts, which a reach of 0 does not meet.
+    pub const fn most_rivals(&self) -> usize {
+        match self.reach {
+            0 => 1,
+            reach => (2 * reach as usize + 1).pow(2) - 8,
+        }
     }
+}
+
+/// Whether a shift is a neighbour shift of the step: another one, within one pixel of it
+/// on both axes. Where a part is even it fits as well as the step, which says nothing
+/// against the step.
+fn is_neighbour_shift(step: Shift, shift: Shift) -> bool {
+    shift != step && (shift.x - step.x).abs() <= 1 && (shift.y - step.y).abs() <= 1
 }
 
 /// The lengths of the lists that a caller lends to a report.
@@ -113,7 +125,7 @@ pub fn report(
     })
 }
 
-/// One frame's verdict and rivals, row by row.
+/// One frame's verdict and rivals, row by row; neighbour shifts are not looked at.
 fn survey(
     stack: &Stack,
     frame: usize,
@@ -132,7 +144,11 @@ fn survey(
     let mut rivals = Vec::new();
     for y in step.y - reach..=step.y + reach {
         for x in step.x - reach..=step.x + reach {
-            let found = counts(&reference, &target, Shift::new(x, y));
+            let shift = Shift::new(x, y);
+            if is_neighbour_shift(step, shift) {
+                continue;
+            }
+            let found = counts(&reference, &target, shift);
             if found.compared >= floor && found.disagreeing <= most {
                 rivals.push(Record {
                     frame: frame as u32,

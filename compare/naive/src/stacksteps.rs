@@ -14,6 +14,11 @@ pub const RIVALRY: Rivalry = Rivalry {
 
 /// The text for 64 by 64 frames, one after another.
 pub fn stacksteps(input: &[u8]) -> String {
+    text_at(input, &RIVALRY)
+}
+
+/// The same with another reach, floor or margin than the program's.
+pub fn text_at(input: &[u8], rivalry: &Rivalry) -> String {
     let count = input.len() / (SIDE * SIDE);
     if !input.len().is_multiple_of(SIDE * SIDE) || count > MOST_FRAMES {
         return "bad input\n".to_string();
@@ -28,9 +33,9 @@ pub fn stacksteps(input: &[u8]) -> String {
         shifts: 2 * count,
         verdicts: count,
         scratch: Scratch::of_step(SIDE, SIDE, OPTIONS.bits),
-        records: RIVALRY.window() * count * RECORD_BYTES, // all that can be found
+        records: rivalry.most_rivals() * count * RECORD_BYTES, // all that can be found
     };
-    match report(stack, &OPTIONS, &RIVALRY, room) {
+    match report(stack, &OPTIONS, rivalry, room) {
         Ok(report) => text(&report),
         Err(refusal) => format!("refused {}\n", refusal.number),
     }

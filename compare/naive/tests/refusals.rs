@@ -307,12 +307,21 @@ fn refusal_9_reach_too_far() {
 
 #[test]
 fn refusal_10_record_space_too_short() {
-    // Of the window of 3 by 3 all are rivals when nothing need be compared.
-    let mut stack = Asked::accepted(3);
-    stack.reach = 1;
-    for (space, answer) in [(359, Err(Refusal::new(10, &[18]))), (360, Ok(()))] {
-        stack.room.records = space;
-        assert_eq!(stack.report_with_floor(0), answer);
+    // All but the eight shifts around the step are rivals when nothing need be compared.
+    for (reach, rivals) in [(0, 1), (1, 1), (2, 17), (3, 41), (64, 16_633)] {
+        let mut stack = Asked::accepted(3);
+        stack.reach = reach;
+        let exact = 20 * 2 * rivals;
+        let short = Err(Refusal::new(10, &[2 * rivals]));
+        for (space, answer) in [
+            (0, short.clone()),
+            (exact - 20, short.clone()),
+            (exact - 1, short),
+            (exact, Ok(())),
+        ] {
+            stack.room.records = space;
+            assert_eq!(stack.report_with_floor(0), answer, "{reach} {space}");
+        }
     }
 }
 

@@ -1,13 +1,14 @@
 //! The slips that the scope names, each on a small input that shows it.
 
-use naive::align::{Options, Scratch, Stack};
+mod small;
+
 use naive::bitmap::packed;
 use naive::difference::{Counts, Pair, disagreement};
 use naive::geometry::Shift;
 use naive::gray::Frame;
-use naive::report::{ALONE, CONTESTED, Record, Report, Rivalry, Room, WEAK, report};
-use naive::stacksteps::{OPTIONS, RIVALRY};
+use naive::report::{ALONE, CONTESTED, Record, Rivalry, WEAK};
 use naive::threshold::threshold;
+use small::{REACH_2, small_report};
 
 /// One row of two pairs: threshold and exclusion bits of the reference, then of the
 /// target.
@@ -52,38 +53,15 @@ fn negative_shifts_split_downwards_at_a_word() {
     }
 }
 
-/// A report on frames of this height, without halving.
-fn small_report(frames: &[&[u8]], height: usize, rivalry: Rivalry) -> Report {
-    let (count, width) = (frames.len(), frames[0].len() / height);
-    let stack = Stack {
-        samples: &frames.concat(),
-        widths: &vec![width; count],
-        heights: &vec![height; count],
-        reference: 0,
-    };
-    let options = Options {
-        bits: 1,
-        tolerance: 0,
-        ..OPTIONS
-    };
-    let room = Room {
-        shifts: 2 * count,
-        verdicts: count,
-        scratch: Scratch::of_step(width, height, 1),
-        records: 1000,
-    };
-    report(stack, &options, &rivalry, room).unwrap()
-}
-
 #[test]
 fn rivals_stand_against_the_neighbour() {
-    // 8 by 3 with a dot in the middle row that goes right by one from frame to frame.
+    // 8 by 7 with a dot in the middle row that goes right by one from frame to frame.
     let dot_at = |x: usize| {
-        let mut frame = [0; 24];
-        frame[8 + x] = 9;
+        let mut frame = [0; 56];
+        frame[24 + x] = 9;
         frame
     };
-    let report = small_report(&[&dot_at(3), &dot_at(4), &dot_at(5)], 3, RIVALRY);
+    let report = small_report(&[&dot_at(3), &dot_at(4), &dot_at(5)], 7, 0, REACH_2);
     assert_eq!(report.shifts, [0, 0, -1, 0, -2, 0]);
     assert_eq!(report.verdicts[1..], [ALONE, ALONE]);
     let record = |frame| Record {
@@ -91,7 +69,7 @@ fn rivals_stand_against_the_neighbour() {
         x: -1,
         y: 0,
         disagreeing: 0,
-        compared: 21,
+        compared: 49,
     };
     assert_eq!(report.records, [record(1), record(2)]);
 }
@@ -103,34 +81,41 @@ fn shifts_below_the_floor_are_no_rivals() {
         let rivalry = Rivalry {
             floor,
             margin: u32::MAX,
-            ..RIVALRY
+            ..REACH_2
         };
-        let report = small_report(&[&row, &row], 1, rivalry);
+        let report = small_report(&[&row, &row], 1, 0, rivalry);
         let compared: Vec<_> = report.records.iter().map(|r| r.compared).collect();
         (report.verdicts[1], compared)
     };
     assert_eq!(compared_from(9), (WEAK, vec![]));
     assert_eq!(compared_from(8), (ALONE, vec![8]));
-    assert_eq!(compared_from(7), (CONTESTED, vec![7, 8, 7]));
+    // One pixel to the left or right compares 7 and is no rival either.
+    assert_eq!(compared_from(7), (ALONE, vec![8]));
+    assert_eq!(compared_from(6), (CONTESTED, vec![6, 8, 6]));
     // Floor 0 takes shifts that compare nothing.
-    let all = vec![0, 0, 0, 7, 8, 7, 0, 0, 0];
+    let all = [&[0; 7][..], &[6, 8, 6], &[0; 7]].concat();
     assert_eq!(compared_from(0), (CONTESTED, all));
 }
 
 #[test]
 fn a_weak_step_may_have_rivals() {
     // At the cut of 5 only the 4s are trusted, and at (0, 0) none meets another.
-    let report = small_report(&[&[4, 4, 5, 5], &[5, 5, 4, 4]], 1, RIVALRY);
+    let far = Rivalry {
+        reach: 3,
+        ..REACH_2
+    };
+    let report = small_report(&[&[4, 4, 5, 5], &[5, 5, 4, 4]], 1, 0, far);
     assert_eq!(report.shifts, [0, 0, 0, 0]);
     assert_eq!(report.verdicts[1], WEAK);
-    let rival = Record {
+    let rival = |x, compared| Record {
         frame: 1,
-        x: -1,
+        x,
         y: 0,
         disagreeing: 0,
-        compared: 1,
+        compared,
     };
-    assert_eq!(report.records, [rival]);
+    // One pixel is compared at (-1, 0) too, next to the step.
+    assert_eq!(report.records, [rival(-3, 1), rival(-2, 2)]);
 }
 
 #[test]
@@ -140,9 +125,9 @@ fn step_and_margin_add_without_wrapping() {
     let checkers = [0, 9, 0, 9, 9, 0, 9, 0].repeat(2);
     let rivalry = Rivalry {
         margin: u32::MAX,
-        ..RIVALRY
+        ..REACH_2
     };
-    let report = small_report(&[&halves, &checkers], 4, rivalry);
+    let report = small_report(&[&halves, &checkers], 4, 0, rivalry);
     assert!(report.records.iter().all(|record| record.disagreeing > 0));
-    assert_eq!(report.records.len(), 9);
+    assert_eq!(report.records.len(), 17);
 }

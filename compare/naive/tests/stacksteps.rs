@@ -1,6 +1,7 @@
 //! The program's printed example, and its other texts.
 
-use naive::stacksteps::stacksteps;
+use naive::report::Rivalry;
+use naive::stacksteps::{RIVALRY, stacksteps, text_at};
 
 /// A frame whose rows hold 24 bytes 0, 16 bytes 100 and 24 bytes 200.
 fn stripes() -> Vec<u8> {
@@ -12,21 +13,48 @@ fn stripes() -> Vec<u8> {
 const EXAMPLE: &str = "\
 frames 2 crop 0 0 64 64
 0 0 0 reference 0
-1 0 0 contested 9
-1 -1 -1 0 2898
-1 0 -1 0 3024
-1 1 -1 0 2898
-1 -1 0 0 2944
+1 0 0 alone 1
 1 0 0 0 3072
-1 1 0 0 2944
-1 -1 1 0 2898
-1 0 1 0 3024
-1 1 1 0 2898
 ";
 
 #[test]
 fn the_printed_example() {
     assert_eq!(stacksteps(&stripes().repeat(2)), EXAMPLE);
+}
+
+/// Shifts of up to 16 columns disagree in none: of 48 trusted columns two are lost for
+/// each, and of 64 rows one for each row.
+const EXAMPLE_AT_REACH_2: &str = "\
+frames 2 crop 0 0 64 64
+0 0 0 reference 0
+1 0 0 contested 17
+1 -2 -2 0 2728
+1 -1 -2 0 2852
+1 0 -2 0 2976
+1 1 -2 0 2852
+1 2 -2 0 2728
+1 -2 -1 0 2772
+1 2 -1 0 2772
+1 -2 0 0 2816
+1 0 0 0 3072
+1 2 0 0 2816
+1 -2 1 0 2772
+1 2 1 0 2772
+1 -2 2 0 2728
+1 -1 2 0 2852
+1 0 2 0 2976
+1 1 2 0 2852
+1 2 2 0 2728
+";
+
+#[test]
+fn the_example_at_reach_2() {
+    let rivalry = Rivalry {
+        reach: 2,
+        ..RIVALRY
+    };
+    let text = text_at(&stripes().repeat(2), &rivalry);
+    assert_eq!(text, EXAMPLE_AT_REACH_2);
 }
 
 #[test]

@@ -170,7 +170,7 @@ pub fn report(random: &mut Random, case: usize) -> Outcome {
     let farthest = case.is_multiple_of(100);
     let (most_height, reach) = match farthest {
         true => (6, 64),
-        false => (30, random.pick(&[0, 1, 1, 2, 3])),
+        false => (30, random.pick(&[0, 1, 2, 2, 2, 3, 3])),
     };
     let (width, height) = size(random, most_height);
     let count = 1 + random.below(4);
@@ -242,10 +242,18 @@ fn text_of(report: &Report) -> String {
     text
 }
 
+/// The program's text, and the one that it would have with a longer reach.
 pub fn stacksteps(random: &mut Random, case: usize) -> Outcome {
     let count = 1 + case % 8;
     let frames = bracket(random, (64, 64), count, 0);
-    let expected = text_of(&recount::report(frames.stack(), &OPTIONS, &RIVALRY));
+    let expected = |rivalry: &Rivalry| text_of(&recount::report(frames.stack(), &OPTIONS, rivalry));
     let text = program::stacksteps(&frames.samples);
-    same(&format!("{count} frames"), &text, &expected)
+    same(&format!("{count} frames"), &text, &expected(&RIVALRY))?;
+    let farther = Rivalry {
+        reach: random.pick(&[2, 3, 5]),
+        ..RIVALRY
+    };
+    let text = program::text_at(&frames.samples, &farther);
+    let input = format!("{count} frames, {farther:?}");
+    same(&input, &text, &expected(&farther))
 }

@@ -45,7 +45,7 @@ fn reported(seed: u64) -> Written {
         status: 0,
         shifts: [0; 2 * FRAMES],
         verdicts: [0; FRAMES],
-        records: vec![0; (FRAMES - 1) * RIVALRY.window() * RECORD_BYTES],
+        records: vec![0; (FRAMES - 1) * RIVALRY.most_rivals() * RECORD_BYTES],
         crop: [0; 4],
         count: 0,
     };

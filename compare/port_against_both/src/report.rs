@@ -99,7 +99,7 @@ fn in_order(random: &mut Random) -> Asked {
         0 => (6, FARTHEST_REACH),
         1 => (6, random.between(9, 63) as u32),
         2 => (16, random.between(4, 8) as u32),
-        _ => (30, random.pick(&[0, 1, 1, 2, 3])),
+        _ => (30, random.pick(&[0, 1, 2, 2, 2, 3, 3])),
     };
     let size = size(random, most_height);
     let count = match random.one_in(12) {

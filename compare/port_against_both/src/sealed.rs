@@ -59,9 +59,9 @@ impl Sealed {
 }
 
 const OPTIONS: Options = Options::USUAL;
-/// Nine rivals in a pair.
+/// Seventeen rivals in a pair.
 const RIVALRY: Rivalry = Rivalry {
-    reach: 1,
+    reach: 2,
     floor: 0,
     margin: 0,
 };
@@ -94,7 +94,7 @@ pub fn run() -> Outcome {
         crop: crop(),
         count: sealed.one(),
     };
-    let records = RIVALRY.window() * RECORD_BYTES;
+    let records = RIVALRY.most_rivals() * RECORD_BYTES;
     let reported = |reference, written, scratch: (&mut [u8], &mut [u64]), values: &mut Values| {
         report(
             stack(reference),

@@ -21,9 +21,9 @@ const OPTIONS: Options = Options {
     bits: 64,
     ..Options::USUAL
 };
-/// Every shift within reach is a rival.
+/// Every shift within reach is a rival, but for the eight around the step.
 const RIVALRY: Rivalry = Rivalry {
-    reach: 1,
+    reach: 2,
     floor: 0,
     margin: u32::MAX,
 };
@@ -155,7 +155,7 @@ fn every_call(side: usize) -> Outcome {
         search::align_stack(stack, &OPTIONS, &mut shifts, scratch, &mut values)
     })?;
     let mut verdicts = [0; 2];
-    let mut records = [0; RIVALRY.window() * RECORD_BYTES];
+    let mut records = [0; RIVALRY.most_rivals() * RECORD_BYTES];
     let mut count = 0;
     on_thread("report", || {
         let written = Report {

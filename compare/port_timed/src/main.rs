@@ -97,7 +97,8 @@ Packing alone is compute_bitmaps less threshold on the port's side, and the whol
 compute_bitmaps on the original's. Percentile 50, tolerance 4.
 A pyramid is made for bits 6; the original's begins with a copy of the frame.
 A report is of two frames, at bits 1, floor 1 and margin 0; there the original counts
-once at each shift that the report surveys, in bitmaps packed before.
+once at each shift that the report surveys, in bitmaps packed before: at all within
+reach but the eight around the step.
 Inputs: noise, any bytes; pins, even rows of bright pins, 6 of 16 columns and 24 of 40
 rows, in light that changes by row; flat, 128 throughout. RGB has each sample thrice.",
         PASSES * race::ROUNDS,

@@ -1,6 +1,7 @@
 //! The survey of one pair: a report of two frames, whose search is of one level,
-//! against the original's count at every shift that the report surveys, of bitmaps
-//! packed before. The original counts only the pixels that disagree.
+//! against the original's count at every shift that the report surveys, which are those
+//! within reach but for the eight around the step, of bitmaps packed before. The original
+//! counts only the pixels that disagree.
 
 use std::hint::black_box;
 
@@ -28,9 +29,23 @@ const SURVEYS: [(&str, u32, Shift); 3] = [
 const SIZES: [Size; 3] = [(64, 64), (640, 480), (1920, 1080)];
 const GOAL: f64 = 2.5;
 
+/// The shifts of a survey, row by row: those within reach of a step, without its eight
+/// neighbour shifts.
+fn around(step: (i32, i32), reach: i32) -> Vec<(i32, i32)> {
+    let mut surveyed = Vec::new();
+    for down in -reach..=reach {
+        for right in -reach..=reach {
+            if right.abs().max(down.abs()) != 1 {
+                surveyed.push((step.0 + right, step.1 + down));
+            }
+        }
+    }
+    surveyed
+}
+
 /// The fewer the longer a survey takes, from its shifts and samples.
-fn rounds(side: usize, samples: usize) -> usize {
-    match side * side * samples {
+fn rounds(shifts: usize, samples: usize) -> usize {
+    match shifts * samples {
         ..100_000_000 => 6,
         100_000_000..10_000_000_000 => 2,
         _ => 0,
@@ -62,13 +77,12 @@ pub fn report(input: &Input) -> Vec<Timed> {
                 heights: &[height; 2],
                 reference: 0,
             };
-            let side = 2 * reach as usize + 1;
-            let mut records = vec![0; RECORD_BYTES * side * side];
             let rivalry = Rivalry {
                 reach,
                 floor: 1,
                 margin: 0,
             };
+            let mut records = vec![0; RECORD_BYTES * rivalry.most_rivals()];
             let mut report = || {
                 accepted(port::report(
                     *black_box(&stack),
@@ -87,24 +101,21 @@ pub fn report(input: &Input) -> Vec<Timed> {
                 (shifts[2], shifts[3])
             };
             // The second frame's shift is its step, around which it is surveyed.
-            let step = report();
-            let reach = reach as i32;
+            let surveyed = around(report(), reach as i32);
             let mut disagreeing = 0;
             let times = race_of(
-                rounds(side, width * height),
+                rounds(surveyed.len(), width * height),
                 [
                     &mut || {
                         let [reference, target] = black_box(&bitmaps);
-                        for y in step.1 - reach..=step.1 + reach {
-                            for x in step.0 - reach..=step.0 + reach {
-                                accepted(original::disagreement(
-                                    reference,
-                                    target,
-                                    x,
-                                    y,
-                                    &mut disagreeing,
-                                ));
-                            }
+                        for &(x, y) in &surveyed {
+                            accepted(original::disagreement(
+                                reference,
+                                target,
+                                x,
+                                y,
+                                &mut disagreeing,
+                            ));
                         }
                     },
                     &mut || _ = report(),

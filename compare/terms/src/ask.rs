@@ -27,6 +27,8 @@ pub struct Answer {
     pub farthest: i32,
     /// Whether the step is the move since the frame before.
     pub is_right: bool,
+    /// Whether it is, but for the pixel next door.
+    pub is_next_door: bool,
     /// Whether the total shift is the move since the reference.
     pub is_total_right: bool,
 }
@@ -59,7 +61,7 @@ pub fn ask(bracket: &Bracket, terms: &Terms) -> Vec<Answer> {
         reference: 0,
     };
     let (mut shifts, mut verdicts) = (vec![0; 2 * count], vec![0; count]);
-    let mut records = vec![0; RECORD_BYTES * rivalry.window() * (count - 1)];
+    let mut records = vec![0; RECORD_BYTES * rivalry.most_rivals() * (count - 1)];
     let need = Scratch::of_step(side, side, terms.bits);
     let (mut bytes, mut words) = (vec![0; need.bytes], vec![0; need.words]);
     let [mut left, mut top, mut wide, mut high, mut written] = [0; 5];
@@ -103,8 +105,9 @@ pub fn ask(bracket: &Bracket, terms: &Terms) -> Vec<Answer> {
                     other => panic!("a frame has the verdict {other}"),
                 },
                 farthest: of_frame.map(distance).max().unwrap_or(0),
-                is_right: fits(step, bracket.moves[frame]),
-                is_total_right: fits(totals[frame], moved),
+                is_right: is_within(step, bracket.moves[frame], 1),
+                is_next_door: is_within(step, bracket.moves[frame], 2),
+                is_total_right: is_within(totals[frame], moved, 1),
             }
         })
         .collect()
@@ -115,9 +118,9 @@ fn field(record: &[u8], at: usize) -> i32 {
     i32::from_le_bytes(record[at..at + 4].try_into().expect("four bytes"))
 }
 
-/// Whether a shift is the move rounded down or up on each axis: less than a pixel from
-/// it. Of a move by whole pixels that is the move itself.
-fn fits(shift: [i32; 2], points: [i64; 2]) -> bool {
+/// Whether a shift is less than so many pixels from the move on each axis. Less than one
+/// is the move rounded down or up, of a move by whole pixels the move itself.
+fn is_within(shift: [i32; 2], points: [i64; 2], pixels: i64) -> bool {
     let off = |axis: usize| (i64::from(shift[axis]) * FINE - points[axis]).abs();
-    off(0) < FINE && off(1) < FINE
+    off(0) < pixels * FINE && off(1) < pixels * FINE
 }

@@ -49,7 +49,7 @@ pub const ADVISED: Terms = Terms {
     bits: 3,
     reach: 14,
     floor: 64 * 64 / 16,
-    margin: 64 * 64 / 200,
+    margin: 64 * 64 * 3 / 200,
     ..PROGRAM
 };
 

@@ -7,6 +7,7 @@ use crate::rows::{by_group, by_scene};
 use crate::scene::Scene;
 use crate::table::{of_verdicts, of_verdicts_summed};
 
+/// At reach 1 only the step can be a rival: what is right there is the search's own doing.
 const REACHES: [u32; 6] = [1, 4, 8, 14, 16, 32];
 const HEAD: [&str; 7] = ["scene", "reach 1", "4", "8", "14", "16", "32"];
 
@@ -26,7 +27,7 @@ pub fn large_frames(seed: u64) -> String {
     let terms = REACHES.map(|reach| Terms {
         reach,
         floor: 256 * 256 / 16,
-        margin: 256 * 256 / 200,
+        margin: 256 * 256 * 3 / 200,
         ..ADVISED
     });
     let taken = Shot {

@@ -35,7 +35,7 @@ pub fn tolerance(seed: u64) -> String {
 }
 
 pub fn margin(seed: u64) -> String {
-    let terms = [0, 10, 20, 41, 82].map(|margin| Terms { margin, ..ADVISED });
+    let terms = [0, 20, 41, 61, 82].map(|margin| Terms { margin, ..ADVISED });
     let mut rows = Vec::new();
     for (is_whole, noises) in [(true, &[2, 10][..]), (false, &[0, 2, 5, 10])] {
         for &noise in noises {
@@ -48,6 +48,6 @@ pub fn margin(seed: u64) -> String {
             rows.extend(by_group(&name, taken, &terms));
         }
     }
-    let head = ["frames", "margin 0", "0.25 %", "0.5 %", "1 %", "2 %"];
+    let head = ["frames", "margin 0", "0.5 %", "1 %", "1.5 %", "2 %"];
     of_verdicts(&head, rows, COUNT, seed)
 }

@@ -21,7 +21,7 @@ pub fn times(seed: u64) -> String {
                 let terms = Terms {
                     reach,
                     floor: samples / 16,
-                    margin: samples / 200,
+                    margin: samples * 3 / 200,
                     ..ADVISED
                 };
                 let least = least_time(&bracket, &terms) / 1e6;

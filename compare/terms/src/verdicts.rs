@@ -11,11 +11,11 @@ type Class = (&'static str, fn(&Answer) -> bool);
 
 const CLASSES: [Class; 5] = [
     ("alone", is_alone),
-    ("contested by the pixel next door", |answer| {
-        is_contested(answer) && answer.farthest == 1
+    ("alone, two pixels off or more", |answer| {
+        is_alone(answer) && !answer.is_next_door
     }),
-    ("from up to 3 pixels away", |answer| {
-        is_contested(answer) && (2..=3).contains(&answer.farthest)
+    ("contested from 2 or 3 pixels away", |answer| {
+        is_contested(answer) && answer.farthest <= 3
     }),
     ("from farther", |answer| {
         is_contested(answer) && answer.farthest > 3

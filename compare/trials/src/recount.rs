@@ -82,8 +82,20 @@ pub fn crop_is_what_all_cover(crop: Crop, shifts: &[i32], width: usize, height: 
     })
 }
 
-/// The report of a sound stack. Each place of a window is counted by the original,
-/// and the verdict is told from the records.
+/// From a step to its neighbour shifts, which are no rivals.
+const TO_NEIGHBOURS: [(i32, i32); 8] = [
+    (-1, -1),
+    (0, -1),
+    (1, -1),
+    (-1, 0),
+    (1, 0),
+    (-1, 1),
+    (0, 1),
+    (1, 1),
+];
+
+/// The report of a sound stack. Each place of a window but those next to the step is
+/// counted by the original, and the verdict is told from the records.
 pub fn report(stack: Stack, options: &Options, rivalry: &Rivalry) -> Report {
     let (width, height) = (stack.widths[0], stack.heights[0]);
     let shifts = original::align_stack(stack, options).expect("a sound stack");
@@ -122,6 +134,9 @@ pub fn report(stack: Stack, options: &Options, rivalry: &Rivalry) -> Report {
         let reach = rivalry.reach as i32;
         for down in -reach..=reach {
             for right in -reach..=reach {
+                if TO_NEIGHBOURS.contains(&(right, down)) {
+                    continue;
+                }
                 let (x, y) = (step.0 + right, step.1 + down);
                 let (disagreeing, compared) = both((x, y));
                 let more = i128::from(disagreeing) - i128::from(of_step);

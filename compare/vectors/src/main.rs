@@ -6,6 +6,7 @@ mod bitmaps;
 mod cases;
 mod images;
 mod line;
+mod neighbours;
 mod programs;
 mod reports;
 mod shifts;
@@ -123,7 +124,12 @@ fn made() -> (Files, usize) {
         let text = lines.join("\n") + "\n";
         files.insert(PathBuf::from(format!("{name}.txt")), text.into_bytes());
     }
-    for (name, input, output) in programs::stacksteps_pairs(&mut Random::new(SEED)) {
+    let pairs = programs::stacksteps_pairs(&mut Random::new(SEED));
+    for (name, text) in programs::farther_texts(&pairs) {
+        cases += 1;
+        files.insert(Path::new("stacksteps").join(name), text.into_bytes());
+    }
+    for (name, input, output) in pairs {
         cases += 1;
         let file = Path::new("stacksteps").join(name);
         files.insert(file.with_extension("stdin"), input);

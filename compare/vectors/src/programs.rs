@@ -1,11 +1,16 @@
-//! What the program `stacksteps` reads and prints, as pairs of files.
+//! What the program `stacksteps` reads and prints, as pairs of files, and what it would
+//! print at a longer reach.
 
-use naive::stacksteps::stacksteps;
+use naive::report::Rivalry;
+use naive::stacksteps::{RIVALRY, stacksteps, text_at};
 use trials::inputs::Random;
 use trials::scenes;
 
 const SIDE: usize = 64;
 const FRAME: usize = SIDE * SIDE;
+
+/// A name, the standard input and the standard output.
+pub type Pair = (String, Vec<u8>, String);
 
 /// A row of pins, 8 columns apart and with soft edges, so that a shift one column or
 /// one row aside disagrees in no more pixels than the right one.
@@ -14,6 +19,20 @@ fn pin_row(left: usize, top: usize) -> Vec<u8> {
     let sample = |at: usize| match (at / SIDE).wrapping_sub(top) {
         0..24 => PITCH[(at % SIDE + 8 - left) % 8],
         _ => 100,
+    };
+    (0..FRAME).map(sample).collect()
+}
+
+/// The edge of a part: its body, below it a row of pins, 8 columns apart and with hard
+/// edges, then board, in two shades. Along the row the picture is the same one pitch on
+/// and nowhere in between.
+fn pins_of_part(left: usize, body: usize) -> Vec<u8> {
+    const PITCH: [u8; 8] = [200, 200, 200, 200, 0, 0, 0, 0];
+    let sample = |at: usize| match (at / SIDE).checked_sub(body) {
+        None => 200,
+        Some(0..24) => PITCH[(at % SIDE + 8 - left) % 8],
+        Some(24..40) => 0,
+        Some(_) => 100,
     };
     (0..FRAME).map(sample).collect()
 }
@@ -89,11 +108,30 @@ fn inputs(random: &mut Random) -> Vec<(String, Vec<u8>)> {
         .flat_map(|row| row.iter().rev().copied())
         .collect();
     inputs.push(("far".to_string(), [left, right].concat()));
+    let pins = [(0, 20), (3, 18)].map(|(left, body)| pins_of_part(left, body));
+    inputs.push(("pins_one_pitch".to_string(), pins.concat()));
     inputs
 }
 
-/// The pairs, each as a name, the standard input and the standard output.
-pub fn stacksteps_pairs(random: &mut Random) -> Vec<(String, Vec<u8>, String)> {
+/// Inputs whose report is kept at another reach than the program's too: there each of them
+/// has a step that is contested, of which the program says alone.
+const FARTHER: [(&str, u32); 2] = [("pins_one_pitch", 8), ("workshop", 8)];
+
+/// The texts of these reports, each with the name of its file.
+pub fn farther_texts(pairs: &[Pair]) -> Vec<(String, String)> {
+    FARTHER
+        .map(|(name, reach)| {
+            let is_named = |pair: &&Pair| pair.0 == name;
+            let (_, input, near) = pairs.iter().find(is_named).expect("an input");
+            let rivalry = Rivalry { reach, ..RIVALRY };
+            let text = text_at(input, &rivalry);
+            assert!(text.contains("contested") && !near.contains("contested"));
+            (format!("{name}.reach_{reach}.stdout"), text)
+        })
+        .into()
+}
+
+pub fn stacksteps_pairs(random: &mut Random) -> Vec<Pair> {
     inputs(random)
         .into_iter()
         .map(|(name, input)| {

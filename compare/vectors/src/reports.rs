@@ -7,20 +7,24 @@ use naive::refusals::{
     FARTHEST_REACH, LONGEST_SIDE, MOST_FRAMES, REACH_TOO_FAR, RECORD_SPACE_TOO_SHORT,
     TOO_MANY_FRAMES, WRONG_LENGTH,
 };
-use naive::report::{CONTESTED, RECORD_BYTES, Record, Rivalry};
+use naive::report::{CONTESTED, RECORD_BYTES, REFERENCE, Record, Rivalry};
 use naive::stacksteps::{OPTIONS, RIVALRY};
 use trials::frames::Frames;
 use trials::inputs::{Random, options};
 
 use crate::cases::{Break, Size, accepted, frames, refused, sizes_and_longest};
+use crate::neighbours;
 use crate::stacks::{Asked, SCRATCH_BREAKS, STACK_BREAKS, no_frame, walks};
 use crate::steps::{EDGES, MANY_BITS};
 
+/// Seventeen rivals a frame: of a window of 5 by 5 all but the neighbour shifts.
 const ALL_NEARBY: Rivalry = Rivalry {
-    reach: 1,
+    reach: 2,
     floor: 0,
     margin: u32::MAX,
 };
+/// The program's terms, but with rivals beside the step.
+const FEW_NEARBY: Rivalry = reaching(3, RIVALRY);
 const REPORT_BREAKS: [Break<Asked>; 4] = [
     (WRONG_LENGTH, |asked| asked.room.verdicts += 1),
     (WRONG_LENGTH, |asked| asked.room.verdicts = 0),
@@ -31,8 +35,11 @@ const REPORT_BREAKS: [Break<Asked>; 4] = [
         asked.rivalry = Some(reaching(u32::MAX, ALL_NEARBY))
     }),
 ];
-const RECORD_BREAKS: [Break<Asked>; 2] = [
+const RECORD_BREAKS: [Break<Asked>; 3] = [
     (RECORD_SPACE_TOO_SHORT, |asked| asked.room.records -= 1),
+    (RECORD_SPACE_TOO_SHORT, |asked| {
+        asked.room.records -= RECORD_BYTES
+    }),
     (RECORD_SPACE_TOO_SHORT, |asked| asked.room.records = 0),
 ];
 
@@ -44,7 +51,7 @@ const fn reaching(reach: u32, rivalry: Rivalry) -> Rivalry {
 fn rivalry(random: &mut Random, (width, height): Size) -> Rivalry {
     let area = (width * height) as u32;
     Rivalry {
-        reach: random.pick(&[0, 1, 1, 2]),
+        reach: random.pick(&[0, 1, 2, 2, 2, 3]),
         floor: random.pick(&[0, 1, 1, 1, area / 8, area / 3, u32::MAX]),
         margin: random.pick(&[0, 0, 0, 1, area / 8, u32::MAX]),
     }
@@ -78,7 +85,11 @@ pub fn report(random: &mut Random) -> Vec<String> {
         floor: 1,
         margin: 3,
     };
-    cases.push(Asked::any(random, (5, 4), 3, OPTIONS, Some(farthest)));
+    let frames = vec![random.bytes(20), random.bytes(20), random.bytes(20)];
+    let noise = Frames::of_one_size(frames, (5, 4), 1);
+    let asked = Asked::of(random, noise, OPTIONS, Some(farthest));
+    assert_eq!(asked.report().verdicts, [CONTESTED, REFERENCE, CONTESTED]);
+    cases.push(asked);
     // A step that disagrees, so that its count and the margin pass 32 bits.
     let frames = vec![random.bytes(63), random.bytes(63)];
     let noise = Frames::of_one_size(frames, (9, 7), 0);
@@ -91,9 +102,11 @@ pub fn report(random: &mut Random) -> Vec<String> {
         &RECORD_BREAKS,
     ]
     .concat();
+    let sound = Asked::sound(random, Some(ALL_NEARBY));
     [
         accepted(cases),
-        refused(&Asked::sound(random, Some(ALL_NEARBY)), &breaks),
+        accepted([sound.clone()]),
+        refused(&sound, &breaks),
         no_frame(random, Some(ALL_NEARBY)),
         whole_window(random),
         walks(random, Some(ALL_NEARBY)),
@@ -104,8 +117,9 @@ pub fn report(random: &mut Random) -> Vec<String> {
         accepted(references(random)),
         seventeen(random),
         accepted(pins(random)),
-        accepted(EDGES.map(|options| Asked::any(random, (8, 7), 3, options, Some(RIVALRY)))),
+        accepted(EDGES.map(|options| Asked::any(random, (8, 7), 3, options, Some(FEW_NEARBY)))),
         many_records(random),
+        accepted(neighbours::cases(random)),
     ]
     .concat()
 }
@@ -147,7 +161,7 @@ fn noise_of(random: &mut Random, records: usize) -> Asked {
 fn limits(random: &mut Random) -> Vec<Asked> {
     const ENDS: [u32; 2] = [0, u32::MAX];
     let mut cases = Vec::new();
-    for reach in [0, 3] {
+    for reach in [0, 1, 2, 3] {
         for (floor, margin) in ENDS
             .map(|floor| ENDS.map(|margin| (floor, margin)))
             .concat()
@@ -162,7 +176,7 @@ fn limits(random: &mut Random) -> Vec<Asked> {
             cases.push(Asked::of(random, frames, OPTIONS, Some(rivalry)));
         }
     }
-    cases.push(Asked::any(random, (19, 9), 3, MANY_BITS, Some(RIVALRY)));
+    cases.push(Asked::any(random, (19, 9), 3, MANY_BITS, Some(FEW_NEARBY)));
     let mut one = Asked::any(
         random,
         (7, 5),
@@ -178,11 +192,11 @@ fn limits(random: &mut Random) -> Vec<Asked> {
 /// Record space and scratch just as long as needed, and longer.
 fn spaces(random: &mut Random) -> Vec<Asked> {
     let sound = Asked::sound(random, Some(ALL_NEARBY));
-    let few = Asked::any(random, (12, 9), 4, OPTIONS, Some(RIVALRY));
+    let few = Asked::any(random, (12, 9), 4, OPTIONS, Some(FEW_NEARBY));
     let mut none = few.clone();
     none.rivalry = Some(Rivalry {
         floor: u32::MAX,
-        ..RIVALRY
+        ..FEW_NEARBY
     });
     let mut cases = Vec::new();
     for asked in [sound, few, none] {
@@ -201,18 +215,28 @@ fn short_of_space(random: &mut Random) -> Vec<String> {
         (RECORD_SPACE_TOO_SHORT, |asked| asked.room.records = 0),
     ];
     let asked = Asked::any(random, (12, 9), 4, OPTIONS, Some(ALL_NEARBY));
-    refused(&asked.with_space(0).with_scratch(6, 4), &breaks)
+    needing(
+        3 * 17,
+        refused(&asked.with_space(0).with_scratch(6, 4), &breaks),
+    )
+}
+
+/// The lines of cases refused for space, which all name the number of records needed.
+fn needing(records: usize, lines: Vec<String>) -> Vec<String> {
+    let named = format!(" {RECORD_SPACE_TOO_SHORT} 1 {records}");
+    assert!(lines.iter().all(|line| line.ends_with(&named)));
+    lines
 }
 
 /// Floors and margins that a shift of the window just meets, and just does not: on
 /// noise, on frames that have all that is compared in their first rows, and on equal
 /// frames, whose step compares all that can be.
 fn bounds(random: &mut Random) -> Vec<Asked> {
-    let noise = vec![random.bytes(99), random.bytes(99)];
+    let noise = vec![random.bytes(63), random.bytes(63)];
     let top = [16, 20].map(|noisy| [random.bytes(noisy), vec![90; 165 - noisy]].concat());
     let equal = vec![random.bytes(54); 2];
     let mut cases = Vec::new();
-    for (frames, size) in [(noise, (11, 9)), (top.to_vec(), (5, 33)), (equal, (9, 6))] {
+    for (frames, size) in [(noise, (9, 7)), (top.to_vec(), (5, 33)), (equal, (9, 6))] {
         let frames = Frames::of_one_size(frames, size, 1);
         cases.extend(just_met(random, frames));
     }
@@ -227,27 +251,24 @@ fn just_met(random: &mut Random, frames: Frames) -> Vec<Asked> {
     let is_step = |record: &&Record| [record.x, record.y] == report.shifts[..2];
     let step = report.records.iter().find(is_step).expect("the step");
 
-    let mut cases = Vec::new();
+    let mut asked = BTreeSet::new(); // each once
     for other in &report.records {
-        let rivalry = Rivalry {
-            reach: 1,
-            floor: other.compared,
-            margin: other.disagreeing.saturating_sub(step.disagreeing),
-        };
-        let higher = Rivalry {
-            floor: rivalry.floor + 1,
-            ..rivalry
-        };
-        let narrower = Rivalry {
-            margin: rivalry.margin.saturating_sub(1),
-            ..rivalry
-        };
-        for rivalry in [rivalry, higher, narrower] {
-            let mut case = all.clone();
-            case.rivalry = Some(rivalry);
-            cases.push(case.with_space(0));
-        }
+        let floor = other.compared;
+        let margin = other.disagreeing.saturating_sub(step.disagreeing);
+        asked.insert((floor, margin));
+        asked.insert((floor + 1, margin));
+        asked.insert((floor, margin.saturating_sub(1)));
     }
+    let of_bounds = |(floor, margin)| {
+        let mut case = all.clone();
+        case.rivalry = Some(Rivalry {
+            reach: 2,
+            floor,
+            margin,
+        });
+        case.with_space(0)
+    };
+    let cases: Vec<Asked> = asked.into_iter().map(of_bounds).collect();
     let counts: BTreeSet<usize> = cases
         .iter()
         .map(|case| case.report().records.len())
@@ -263,7 +284,7 @@ fn references(random: &mut Random) -> Vec<Asked> {
         for reference in [0, count / 2, count - 1] {
             let frames = frames(random, size, count);
             let frames = Frames::of_one_size(frames, size, reference);
-            cases.push(Asked::of(random, frames, OPTIONS, Some(RIVALRY)));
+            cases.push(Asked::of(random, frames, OPTIONS, Some(FEW_NEARBY)));
         }
     }
     cases
@@ -279,7 +300,7 @@ fn seventeen(random: &mut Random) -> Vec<String> {
         asked.frames.heights.push(2);
         asked.room.shifts += 2;
         asked.room.verdicts += 1;
-        asked.room.records += ALL_NEARBY.window() * RECORD_BYTES;
+        asked.room.records += ALL_NEARBY.most_rivals() * RECORD_BYTES;
     })];
     [accepted([sixteen.clone()]), refused(&sixteen, &one_more)].concat()
 }
@@ -319,10 +340,12 @@ fn pins(random: &mut Random) -> Vec<Asked> {
     cases
 }
 
-/// The farthest reach with nothing asked of a rival: 129 by 129 a frame do not fit.
+/// The farthest reach with nothing asked of a rival: of 129 by 129 shifts a frame all but
+/// eight are rivals, which do not fit.
 fn whole_window(random: &mut Random) -> Vec<String> {
     let everything: [Break<Asked>; 1] = [(RECORD_SPACE_TOO_SHORT, |asked| {
         asked.rivalry = Some(reaching(FARTHEST_REACH, ALL_NEARBY));
     })];
-    refused(&Asked::sound(random, Some(ALL_NEARBY)), &everything)
+    let sound = Asked::sound(random, Some(ALL_NEARBY));
+    needing(2 * (129 * 129 - 8), refused(&sound, &everything))
 }

@@ -62,12 +62,12 @@ impl Asked {
         }
     }
 
-    /// A stack that just has what it needs, for a report all nine rivals a frame.
+    /// A stack that just has what it needs, for a report as many rivals as can be.
     pub fn sound(random: &mut Random, rivalry: Option<Rivalry>) -> Self {
         let mut asked = Self::any(random, SOUND, 3, OPTIONS, rivalry);
         asked.frames.reference = 1;
         asked.room.scratch = asked.needed();
-        asked.room.records = 2 * 9 * RECORD_BYTES;
+        asked.room.records = rivalry.map_or(0, |r| 2 * r.most_rivals() * RECORD_BYTES);
         asked
     }
 

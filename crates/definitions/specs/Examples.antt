@@ -4,16 +4,18 @@ use mathlib.Core.Path.{_≡_, refl}
 use mathlib.Core.Bool.{true}
 use mathlib.Core.List.{List, [], _∷_}
 use lib.IntN.{pos, negsuc}
+use lib.ListN.{length}
 use Rattle.definitions.specs.Sum.{sum, countIf}
 use Rattle.definitions.specs.Build.{build, joined, keepIf}
 use Rattle.definitions.specs.Geometry.{Shift, origin, indexOf, source, atSources}
 use Rattle.definitions.specs.Shrink.{average, subsample, mean, halvedSample, shrink2, sideAt, samplesAt, levelOf, halvedSamples, levelStart, nowhere, placeOf}
 use Rattle.definitions.specs.Threshold.{bins, target, binsAdded, cut, thresholdBit, exclusionBit}
 use Rattle.definitions.specs.Bitmap.{wordsPerRow, bitOf, bitAt}
-use Rattle.definitions.specs.Difference.{Bitmaps, bitmapsOf, bitmapsIn, comparedBit, disagreeingBit, overlap, counts}
+use Rattle.definitions.specs.Difference.{Bitmaps, Counts, bitmapsOf, bitmapsIn, comparedBit, disagreeingBit, overlap, counts}
 use Rattle.definitions.specs.Align.{Options, Stack, shift, logUpTo, log2, levels, tried, leastFrom, earliestLeast, refine}
 use Rattle.definitions.specs.Align.{bitmapsAt, countsAt, stepAt, step, stackOf, exposure, neighbour, walk, stepOf}
-use Rattle.definitions.specs.Report.{Terms, window, comesClose, isRival, survey, frameCounts, limitOf, rivals, Record, bytes32, twosComplement, recordBytes, fieldOf, signedOf, recordAt, verdict}
+use Rattle.definitions.specs.Report.{Question, window, distance, isNeighbourShift, comesClose, isRival, survey, Terms, frameCounts, limitOf, rivals}
+use Rattle.definitions.specs.Report.{Record, bytes32, twosComplement, recordBytes, fieldOf, signedOf, recordAt, verdict}
 use Rattle.definitions.specs.Refusals.{answer, refused, sideOver, wrongLength, percentileOver, noReference, framesOver, cutChecks, pairDiffers, framesChecks}
 
 -- A pixel whose threshold bit and exclusion bit are these.
@@ -50,23 +52,33 @@ unfolding sum countIf build indexOf source atSources sideAt levelOf bins target 
     comparedBit disagreeingBit overlap counts logUpTo log2 levels tried leastFrom earliestLeast refine bitmapsAt countsAt stepAt step
 nothing-compared-wins = refl
 
--- Of the nine shifts of a single pixel only the centre compares one: the others disagree in none, and a floor of 1 keeps them out.
-below-the-floor : survey (counts 1 1 (pixel 1 1) (pixel 1 1)) (record { centre = origin; reach = 1; floor = 1; limit = 0 }) ≡ origin ∷ []
-unfolding sum build joined keepIf indexOf source atSources comparedBit disagreeingBit overlap counts window comesClose isRival survey
+-- Of the shifts of a single pixel only the centre compares one: the others disagree in none, and a floor of 1 keeps them out.
+below-the-floor : survey (counts 1 1 (pixel 1 1) (pixel 1 1)) (record { centre = origin; reach = 2; floor = 1; limit = 0 }) ≡ origin ∷ []
+unfolding sum build joined keepIf indexOf source atSources comparedBit disagreeingBit overlap counts window distance isNeighbourShift comesClose isRival survey
 below-the-floor = refl
+
+-- A survey where every shift disagrees in none.
+abbrev alike : ℕ → List Shift
+alike r = survey (λ (s : Shift). record { disagreeing = 0; compared = 1 }) (record { centre = shift (pos 5) (negsuc 6); reach = r; floor = 1; limit = 0 })
+
+-- The eight shifts next door are no rivals, the centre is one, and so are the sixteen shifts two pixels away.
+next-door : (alike 1 ≡ shift (pos 5) (negsuc 6) ∷ []) × (length (alike 2) ≡ 17)
+unfolding build joined keepIf window distance isNeighbourShift comesClose isRival survey
+next-door = (refl, refl)
 
 -- Two frames of card D's row.
 abbrev twice : Stack
 twice = stackOf (4 ∷ 4 ∷ []) (1 ∷ 1 ∷ []) (0 ∷ 10 ∷ 20 ∷ 30 ∷ 0 ∷ 10 ∷ 20 ∷ 30 ∷ []) 0 50 usual
 
-abbrev terms : ℕ → Terms
-terms f = record { reach = 1; floor = f; margin = 0 }
+abbrev terms : ℕ → ℕ → Terms
+terms f m = record { reach = 2; floor = f; margin = m }
 
--- The step (0, 0) compares three pixels, one to either side one: a verdict of each kind, by the floor.
-verdict-of-each-kind : (verdict twice (terms 1) 0 ≡ 0) × (verdict twice (terms 4) 1 ≡ 1) × (verdict twice (terms 2) 1 ≡ 2) × (verdict twice (terms 1) 1 ≡ 3)
+-- The step (0, 0) compares three pixels and disagrees in none, two to either side compares one and disagrees in it: a verdict of each
+-- kind, by floor and margin.
+verdict-of-each-kind : (verdict twice (terms 1 0) 0 ≡ 0) × (verdict twice (terms 4 0) 1 ≡ 1) × (verdict twice (terms 1 0) 1 ≡ 2) × (verdict twice (terms 1 1) 1 ≡ 3)
 unfolding sum countIf build joined keepIf indexOf source atSources sideAt levelOf bins target binsAdded cut thresholdBit exclusionBit bitmapsOf
     comparedBit disagreeingBit overlap counts logUpTo log2 levels tried leastFrom earliestLeast refine bitmapsAt countsAt stepAt step
-    stackOf exposure neighbour stepOf window comesClose isRival survey frameCounts limitOf rivals verdict
+    stackOf exposure neighbour stepOf window distance isNeighbourShift comesClose isRival survey frameCounts limitOf rivals verdict
 verdict-of-each-kind = (refl, refl, refl, refl)
 
 -- The mean of four samples, and the upper left one.

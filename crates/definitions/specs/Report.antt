@@ -1,7 +1,7 @@
 -- The report: the rivals of each step, their records as bytes and back, and the verdicts.
-use Prim.Native.Nat.{ℕ, suc, _+_, _-_, _*_, _/_, _%_, _≤_, _<_}
+use Prim.Native.Nat.{ℕ, suc, _+_, _-_, _*_, _/_, _%_, _≤_, _<_, max}
 use mathlib.Core.Path.{_≡_}
-use mathlib.Core.Bool.{Bool, cond, _&&_}
+use mathlib.Core.Bool.{Bool, cond, not, _&&_}
 use mathlib.Core.List.{List, [], _∷_, _++_, map}
 use lib.Dec.{ltb, leb, eqb}
 use lib.IntN.{ℤ, pos, negsuc, natAbs, _+ℤ_, _-ℤ_}
@@ -22,12 +22,20 @@ pub record Question : Type 0 where
   pub floor : ℕ
   pub limit : ℕ
 
--- 01's "rival": within the reach of the centre on both axes, compares at least the floor, disagrees in at most the limit.
+-- 02's "neighbour shift" of a centre: another shift within one pixel of it on both axes. There are eight.
+pub record NeighbourShift (centre s : Shift) : Type 0 where
+  pub other : s ≡ centre → ⊥
+  pub across : natAbs (s .x -ℤ centre .x) ≤ 1
+  pub down : natAbs (s .y -ℤ centre .y) ≤ 1
+
+-- 01's "rival": within the reach of the centre on both axes, compares at least the floor, disagrees in at most the limit. By 02 no
+-- neighbour shift is one; the centre can be.
 pub record Rival (at : Shift → Counts) (u : Question) (s : Shift) : Type 0 where
   pub across : natAbs (s .x -ℤ u .centre .x) ≤ u .reach
   pub down : natAbs (s .y -ℤ u .centre .y) ≤ u .reach
   pub compares : u .floor ≤ at s .compared
   pub disagrees : at s .disagreeing ≤ u .limit
+  pub no-neighbour-shift : NeighbourShift (u .centre) s → ⊥
 
 -- The shifts within the reach of a centre: row by row from the top, each from the left, so y rises, then x.
 unfoldable pub window : Shift → ℕ → List Shift
@@ -35,12 +43,21 @@ window c reach =
     let side = suc (2 * reach) in
     image side side (λ (i j : ℕ). record { x = (c .x -ℤ pos reach) +ℤ pos i; y = (c .y -ℤ pos reach) +ℤ pos j })
 
--- The test that a shift of the window has to pass, by both counts there.
-unfoldable pub comesClose : Question → Shift → Counts → Bool
-comesClose u s n = leb (u .floor) (n .compared) && leb (n .disagreeing) (u .limit)
+-- How many pixels a shift lies away from a centre, along the axis where it lies farther.
+unfoldable pub distance : Shift → Shift → ℕ
+distance c s = max (natAbs (s .x -ℤ c .x)) (natAbs (s .y -ℤ c .y))
 
+-- The test of a neighbour shift: it lies one pixel away.
+unfoldable pub isNeighbourShift : Shift → Shift → Bool
+isNeighbourShift c s = eqb (distance c s) 1
+
+-- Both counts at a shift come close enough.
+unfoldable pub comesClose : Question → Counts → Bool
+comesClose u n = leb (u .floor) (n .compared) && leb (n .disagreeing) (u .limit)
+
+-- The test that a shift of the window has to pass.
 unfoldable pub isRival : (Shift → Counts) → Question → Shift → Bool
-isRival at u s = comesClose u s (at s)
+isRival at u s = not (isNeighbourShift (u .centre) s) && comesClose u (at s)
 
 -- The rivals in order.
 unfoldable pub survey : (Shift → Counts) → Question → List Shift

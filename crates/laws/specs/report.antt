@@ -1,5 +1,6 @@
 -- The survey, the records, the verdicts, and all that a report owes.
 pub mod Windows  -- the shifts within a reach: which they are, and their order
+pub mod Neighbours  -- neighbour shifts are those one pixel away from a centre, and the test tells them
 pub mod Keeping  -- what of a list passes a test: of two lists, of lists joined, of a list by index
 pub mod Surveys  -- a survey row by row, and how many rivals there can be
 pub mod Records  -- the rivals of a survey and the records of a report: none missing, none twice, their order, number and bytes

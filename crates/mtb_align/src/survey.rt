@@ -12,11 +12,11 @@ ghost use mathlib.Core.Bool.{cond, false};
 ghost use mathlib.Core.List.{[], _∷_};
 ghost use Prim.Native.Nat.{_+_, _*_, _≤_, _<_};
 ghost use lib.Dec.{ltb};
-ghost use lib.IntN.{pos};
+ghost use lib.IntN.{pos, natAbs, _-ℤ_};
 ghost use lib.ListN.{length};
 ghost use lib.Seq.{sets};
 ghost use Rattle.definitions.specs.Build.{keepIf};
-ghost use Rattle.definitions.specs.Report.{comesClose, isRival, survey, bytes32, twosComplement, recordBytes};
+ghost use Rattle.definitions.specs.Report.{isNeighbourShift, comesClose, isRival, survey, bytes32, twosComplement, recordBytes};
 ghost use Rattle.definitions.specs.Bitmap.{total};
 ghost use Rattle.definitions.specs.Difference.{bitmapsIn, counts};
 ghost use Rattle.laws.specs.bitmaps.Bands.{band};
@@ -42,9 +42,37 @@ pub(crate) struct Question {
 
 // ---- the shifts of a window
 
-// Whether a shift of the window is a rival, by both counts there.
-fn is_rival(question: Question, shift: Shift, counts: Counts) -> bool
-    ensures { λ r. ⌜ r ≡ comesClose (questionIn question) (shiftIn shift) (countsIn counts) ⌝ }
+// How many pixels two coordinates lie apart.
+fn pixels_between(a: i32, b: i32) -> usize
+    ensures { λ r. ⌜ r ≡ natAbs (a -ℤ b) ⌝ }
+{
+    let up = above(a) + below(b);
+    let down = below(a) + above(b);
+    if up < down {
+        return down - up;
+    }
+    up - down
+}
+
+// Whether a shift is a neighbour shift of a centre: within one pixel of it on both axes, and not the centre itself. The rows come first,
+// since most rows of a window are told by them alone.
+fn is_neighbour_shift(centre: Shift, shift: Shift) -> bool
+    ensures { λ r. ⌜ r ≡ isNeighbourShift (shiftIn centre) (shiftIn shift) ⌝ }
+{
+    let down = pixels_between(shift.y, centre.y);
+    if down > 1 {
+        return false;
+    }
+    let across = pixels_between(shift.x, centre.x);
+    if across > 1 {
+        return false;
+    }
+    across + down > 0
+}
+
+// Whether both counts at a shift come close enough.
+fn comes_close(question: Question, counts: Counts) -> bool
+    ensures { λ r. ⌜ r ≡ comesClose (questionIn question) (countsIn counts) ⌝ }
 {
     if counts.compared < question.floor {
         return false;
@@ -205,7 +233,7 @@ fn keep_record(space: &mut [u8], number: usize, frame: usize, shift: Shift, coun
     }
 }
 
-// The record of a shift that is a rival, behind `number` others, if there is room; the answer is how many there are then.
+// The record of a shift whose counts come close enough, behind `number` others, if there is room; the answer is how many there are then.
 fn keep_rival(
     space: &mut [u8],
     number: usize,
@@ -217,11 +245,11 @@ fn keep_rival(
     requires { ⌜ (number ≤ 1000000) × (frame < 16) × (counts .disagreeing < 4294967296) × (counts .compared < 4294967296) ⌝ }
     ensures { λ r. ⌜
         Kept (now (space .entry)) number
-        (cond (comesClose (questionIn question) (shiftIn shift) (countsIn counts)) (record { frame = frame; shift = shiftIn shift; counts = countsIn counts } ∷ []) [])
+        (cond (comesClose (questionIn question) (countsIn counts)) (record { frame = frame; shift = shiftIn shift; counts = countsIn counts } ∷ []) [])
         (now (space .exit)) r
         ⌝ }
 {
-    if is_rival(question, shift, counts) {
+    if comes_close(question, counts) {
         keep_record(space, number, frame, shift, counts);
         return number + 1;
     }
@@ -231,7 +259,7 @@ fn keep_rival(
 // ---- the survey: the records of all rivals go into a space as far as there is room, behind `number` others, and each answer is how
 // many there are then
 
-// One shift.
+// One shift. A neighbour shift is not counted.
 fn survey_shift(
     words: &[u64],
     width: usize,
@@ -251,6 +279,9 @@ fn survey_shift(
         (now (space .exit)) r
         ⌝ }
 {
+    if is_neighbour_shift(question.centre, shift) {
+        return number;
+    }
     if ruled_out(words, width, height, shift, question.limit, likely) {
         return number;
     }

@@ -27,7 +27,7 @@ use Rattle.laws.specs.report.Records.{records-name, records-number, rivals-none
 use Rattle.laws.specs.search.StepBounds.{Small}
 use Rattle.laws.specs.general.Sums.{sum-first, sum-le}
 use Rattle.laws.specs.search.ShiftLists.{listed-x, listed-y}
-use Rattle.laws.specs.report.Surveys.{rivals-window}
+use Rattle.laws.specs.report.Verdicts.{near-few}
 use Rattle.steps.specs.Text.{ascii, line, heading, frameLine, recordLines, frameText, reportText, inputOptions, inputStack, inputTerms, badInput, refusalText, text}
 use Rattle.steps.specs.Inner.{frameTextIn}
 use Rattle.steps.proofs.Decoded.{records-of}
@@ -85,8 +85,8 @@ module _ (a : Stack) (few : Few a) where
   pub small : Small a
   small = record { width = omega (arith, few .wide); height = omega (arith, few .high); frames = omega (arith, few .most); reference = omega (arith, few .first, few .some) }
 
-  -- no more records than nine for each frame but the reference
-  pub few-records : recordsNeeded a inputTerms ≤ 63
+  -- no more records than one for each frame but the reference
+  pub few-records : recordsNeeded a inputTerms ≤ 7
   unfolding recordsNeeded
   few-records =
       let m = a .frames - 1 in
@@ -98,7 +98,7 @@ module _ (a : Stack) (few : Few a) where
         ap (λ (n : ℕ). sum n f) e,
         sum-first m f,
         ap length (rivals-none a inputTerms 0 (sym (few .first))),
-        sum-le m 9 (λ (i : ℕ). f (suc i)) (λ i h. rivals-window a inputTerms (suc i)),
+        sum-le m 1 (λ (i : ℕ). f (suc i)) (λ i h. near-few a inputTerms (suc i) (omega arith)),
       )
 
   -- the records' numbers are small
@@ -190,7 +190,7 @@ module _ {n : ℕ} {input widths heights : List ℕ} {percentile bits shiftList 
   before = surveyChecks widths heights percentile 0 bits (length input) shiftList verdictList reach 2728 256
 
   abbrev checks : List Check
-  checks = reportChecks before (recordsNeeded stack q) 1260
+  checks = reportChecks before (recordsNeeded stack q) 140
 
   same-stack : stack ≡ stackFrom n input
   same-stack i = stackOf (call .wide i) (call .high i) input 0 (call .cut i) (call .options i)
@@ -206,11 +206,11 @@ module _ {n : ℕ} {input widths heights : List ℕ} {percentile bits shiftList 
     few-stack : Few stack
     few-stack = subst Few (sym same-stack) (few-from n input some (call .most))
 
-    pub few-needed : recordsNeeded stack q ≤ 63
+    pub few-needed : recordsNeeded stack q ≤ 7
     few-needed = omega (arith, ap (recordsNeeded stack) (call .terms), few-records stack few-stack)
 
     all-accepted : {A : Type 0} (a : A) → answer checks a ≡ accepted a
-    all-accepted a = accepted-for-space a before (recordsNeeded stack q) 1260 (accepted-too (tt {0}) a before passes) (omega (arith, few-needed))
+    all-accepted a = accepted-for-space a before (recordsNeeded stack q) 140 (accepted-too (tt {0}) a before passes) (omega (arith, few-needed))
 
     written : {A : Type 0} (new old : A) → after checks new old ≡ new
     written new old = after-accepted (tt {0}) checks new old (all-accepted tt)
@@ -236,7 +236,7 @@ module _ {n : ℕ} {input widths heights : List ℕ} {percentile bits shiftList 
   none-refused : n ≡ 0 → {A : Type 0} (a : A) → answer checks a ≡ refused 5 (0 ∷ 0 ∷ [])
   none-refused e a =
       let p = same-checks ∙ ap checksFrom e in
-      sym (refused-before before (recordsNeeded stack q) 1260 a (refused-too (tt {0}) a before (ap (λ (l : List Check). answer l tt) p ∙ no-reference)))
+      sym (refused-before before (recordsNeeded stack q) 140 a (refused-too (tt {0}) a before (ap (λ (l : List Check). answer l tt) p ∙ no-reference)))
 
   -- so an answer tells whether there are frames
   pub answered : {A : Type 0} {x a : A} → accepted x ≡ answer checks a → (1 ≤ n) × (x ≡ a)

@@ -17,7 +17,7 @@ use Rattle.laws.specs.general.Lists.{build-at, build-length}
 use Rattle.laws.specs.general.Members.{in-joined, joined-sum}
 use Rattle.laws.specs.search.StepBounds.{abs-parts, shift-small}
 use Rattle.laws.specs.general.Sums.{sum-le}
-use Rattle.laws.specs.report.Surveys.{rivals-window}
+use Rattle.laws.specs.report.Verdicts.{near-few}
 use Rattle.steps.specs.Text.{ascii, placesUpTo, decimal, integer, line, heading, verdictWord, frameLine, recordLine, recordLines, frameText, reportText, inputTerms, refusalText, text}
 use Rattle.steps.proofs.Numbers.{one-place, more-places}
 use Rattle.steps.proofs.Called.{Few, Short, small, short, few-from, stackFrom, text-long, text-part, text-none, text-report}
@@ -94,9 +94,9 @@ unfolding ascii
 known = (refl, refl)
 
 module _ (a : Stack) (few : Few a) where
-  frame-number : (k : ℕ) → length (frameRecords a inputTerms k) ≤ 9
+  frame-number : (k : ℕ) → length (frameRecords a inputTerms k) ≤ 1
   unfolding frameRecords
-  frame-number k = omega (arith, length-map {B = Record} (rivals a inputTerms k) (λ (s : Shift). record { frame = k; shift = s; counts = frameCounts a k s }), rivals-window a inputTerms k)
+  frame-number k = omega (arith, length-map {B = Record} (rivals a inputTerms k) (λ (s : Shift). record { frame = k; shift = s; counts = frameCounts a k s }), near-few a inputTerms k (omega arith))
 
   of-report : (k : ℕ) → k < a .frames → (e : Record) → List·Memᴰ e (frameRecords a inputTerms k) → List·Memᴰ e (records a inputTerms)
   unfolding records
@@ -108,7 +108,7 @@ module _ (a : Stack) (few : Few a) where
       let l = frameRecords a inputTerms k in
       let s = shiftOf a k in
       let within = shift-small a (small a few) k h in
-      let number : length l ≤ 9 = frame-number k in
+      let number : length l ≤ 1 = frame-number k in
       omega (
         arith,
         length-append (frameLine k s (verdict a inputTerms k) (length l)) (recordLines l),

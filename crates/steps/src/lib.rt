@@ -42,8 +42,8 @@ const FRAME: usize = SIDE * SIDE;
 
 const INPUT: usize = FRAMES * FRAME;
 
-// Nine rivals for each frame but the reference are all that a reach of 1 can find.
-const RECORD_SPACE: usize = 7 * 9 * RECORD_BYTES;
+// At a reach of 1 only the step itself can be a rival, so that there is one for each frame but the reference.
+const RECORD_SPACE: usize = 7 * RECORD_BYTES;
 
 // The halved levels of two frames, and the bitmaps of both.
 const SCRATCH: usize = 2 * (32 * 32 + 16 * 16 + 8 * 8 + 4 * 4 + 2 * 2);

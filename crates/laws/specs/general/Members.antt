@@ -5,7 +5,7 @@ use mathlib.Core.Bool.{Bool, true, false, cond}
 use mathlib.Core.Logic.{_⊎_, inl, inr, ⊎-elim}
 use mathlib.Core.List.{List, [], _∷_, _++_, map, Memᴰ·append-left, Memᴰ·append-right, Memᴰ·cast, Memᴰ·map, Memᴰ·of-map}
 use mathlib.Core.List.{List·Memᴰ, List·Memᴰ·head, List·Memᴰ·tail, List·Memᴰ·not-nil, List·Memᴰ·cases-cons, List·Memᴰ·append-cases, List·Memᴰ·eq-of-singleton}
-use Prim.Native.Nat.{ℕ, zero, suc, _+_, _<_}
+use Prim.Native.Nat.{ℕ, zero, suc, _+_, _≤_, _<_}
 use native.Mathlib.Nat.{not-suc-le-zero, eq-or-lt-of-le, le-of-suc-le-suc, le-refl, le-suc, lt-of-lt-of-le}
 use native.Mathlib.Omega.{arith}
 use lib.ListN.{length, getD, length-append}
@@ -201,6 +201,11 @@ module _ {A : Type 0} (R : A → A → Type 0) (irreflexive : (a : A) → R a a 
   ordered-alone (more f none) m h = refl
   ordered-alone (more {a = b} f (more {a = c} g p)) m h =
       absurd (apart (f c (List·Memᴰ·head refl)) (h b (List·Memᴰ·head refl)) (h c (List·Memᴰ·tail (List·Memᴰ·head refl))))
+
+  -- and one that has at most that one is no longer
+  pub ordered-few : {a : A} {l : List A} → Ordered R l → ((b : A) → List·Memᴰ b l → b ≡ a) → length l ≤ 1
+  ordered-few none h = omega arith
+  ordered-few (more {a = b} f p) h = omega (arith, ordered-alone (more f p) (List·Memᴰ·head refl) (λ c m. h c m ∙ sym (h b (List·Memᴰ·head refl))))
 
   -- and one of another length has another element
   pub ordered-another : {a : A} {l : List A} → Ordered R l → List·Memᴰ a l → (length l ≡ 1 → ⊥) → (b : A) × List·Memᴰ b l × (b ≡ a → ⊥)

@@ -11,13 +11,13 @@ use Rattle.definitions.specs.Build.{build}
 use Rattle.definitions.specs.Geometry.{Shift, Rect, Place, origin}
 use Rattle.definitions.specs.Align.{Stack, stepOf, shiftOf}
 use Rattle.definitions.specs.Refusals.{Check, accepted, refused, answer, reportChecks}
-use Rattle.definitions.specs.Report.{Terms, frameCounts, RivalOf, Record, Before, records, recordsNeeded, recordsBytes, recordAt, verdict, reportCrop}
+use Rattle.definitions.specs.Report.{NeighbourShift, Terms, frameCounts, RivalOf, Record, Before, records, recordsNeeded, recordsBytes, recordAt, verdict, reportCrop}
 use Rattle.laws.specs.checks.Checks.{refused-for-space, accepted-for-space}
 use Rattle.laws.specs.images.Crop.{CoveredByFrames, report-crop-in-frame, report-crop-covered, covered-report-crop}
 use Rattle.laws.specs.report.ReadBack.{AllHeld, records-held, records-read}
 use Rattle.laws.specs.report.Records.{Names, records-name, rivals-named, records-once, records-in-order, records-number}
 use Rattle.laws.specs.search.StepBounds.{Small, shift-reference}
-use Rattle.laws.specs.report.Verdicts.{verdict-reference, verdict-cases, weak-means, weak-no-rival, alone-means, contested-means}
+use Rattle.laws.specs.report.Verdicts.{verdict-reference, verdict-cases, weak-means, weak-no-rival, alone-means, contested-means, FarFall, alone-says}
 
 -- the record of frame k that names a shift, with both counts there
 abbrev named : Stack → ℕ → Shift → Record
@@ -31,6 +31,8 @@ pub record NamesRivals (a : Stack) (q : Terms) (l : List Record) : Type 0 where
   pub once : (d : Record) (i j : ℕ) → i < length l → j < length l → getD l i d .frame ≡ getD l j d .frame → getD l i d .shift ≡ getD l j d .shift → i ≡ j
   -- "and no other shift, with both counts"
   pub only : (e : Record) → List·Memᴰ e l → Names a q e
+  -- no record names a neighbour shift of its frame's step
+  pub neighbours : (e : Record) → List·Memᴰ e l → NeighbourShift (stepOf a (e .frame)) (e .shift) → ⊥
   -- they stand by frame, row and column
   pub ordered : (d : Record) (i j : ℕ) → i < j → j < length l → Before (getD l i d) (getD l j d)
 
@@ -41,6 +43,9 @@ pub record Judges (a : Stack) (q : Terms) (k v : ℕ) : Type 0 where
   pub weak : (k ≡ a .reference → ⊥) → (v ≡ 1) ↔ (frameCounts a k (stepOf a k) .compared < q .floor)
   pub weak-step : (k ≡ a .reference → ⊥) → (v ≡ 1) ↔ (RivalOf a q k (stepOf a k) → ⊥)
   pub alone : (k ≡ a .reference → ⊥) → (v ≡ 2) ↔ (RivalOf a q k (stepOf a k) × ((s : Shift) → RivalOf a q k s → s ≡ stepOf a k))
+  -- "the step compares at least f and every shift within reach that is two or more pixels away compares fewer than f or disagrees in
+  -- more than the step plus m"
+  pub alone-far : (k ≡ a .reference → ⊥) → (v ≡ 2) ↔ ((q .floor ≤ frameCounts a k (stepOf a k) .compared) × FarFall a q k)
   pub contested : (k ≡ a .reference → ⊥) → (v ≡ 3) ↔ (RivalOf a q k (stepOf a k) × ((s : Shift) × RivalOf a q k s × (s ≡ stepOf a k → ⊥)))
 
 -- r is the crop: "exactly the places that every moved frame covers", the reference moved by (0, 0)
@@ -67,6 +72,7 @@ demand-three a q = record {
     each = λ k l ne s h. rivals-named a q (named a k s) (record { frame = l; other = ne; rival = h; counts = refl });
     once = records-once a q;
     only = records-name a q;
+    neighbours = λ e m. records-name a q e m .rival .no-neighbour-shift;
     ordered = records-in-order a q;
   };
   short = λ before all space h.
@@ -78,6 +84,7 @@ demand-three a q = record {
     weak = weak-means a q k;
     weak-step = weak-no-rival a q k;
     alone = alone-means a q k;
+    alone-far = alone-says a q k;
     contested = contested-means a q k;
   };
   cropped = record {

@@ -10,13 +10,13 @@ use lib.Seq.{sets, length-sets, take-nil, take-all, take-append-le, take-append-
 use Rattle.definitions.specs.Build.{build, joined, keepIf}
 use Rattle.definitions.specs.Geometry.{Shift}
 use Rattle.definitions.specs.Difference.{Counts}
-use Rattle.definitions.specs.Report.{Question, comesClose, isRival, survey, Record, recordBytes, recordsBytes}
+use Rattle.definitions.specs.Report.{Question, isNeighbourShift, comesClose, isRival, survey, Record, recordBytes, recordsBytes}
 use Rattle.laws.specs.general.Cases.{lt-or-le}
 use Rattle.laws.specs.report.Keeping.{keep-none, keep-more}
 use Rattle.laws.specs.general.Lists.{joined-none, joined-more}
 use Rattle.laws.specs.report.RecordBytes.{bytes-length, bytes-append}
 use Rattle.laws.specs.report.Records.{recordOf}
-use Rattle.laws.specs.report.Surveys.{rivalsUpTo, rowRivals, survey-rows}
+use Rattle.laws.specs.report.Surveys.{rivalsUpTo, rowRivals, survey-rows, rival-by-counts}
 use Rattle.laws.specs.report.Windows.{windowAt}
 use Rattle.laws.specs.general.Writes.{sets-append, stored-front}
 
@@ -181,11 +181,12 @@ module _ (at : Shift → Counts) (k : ℕ) (u : Question) (s : Shift) {space : L
   unfolding keepIf
   no-rival-kept e = shifts-none at k (ap (λ (t : Bool). cond t (s ∷ []) []) e)
 
-  pub rival-kept : {c : Counts} {new : List ℕ} {next : ℕ} → c ≡ at s
-      → Kept space start (cond (comesClose u s c) (record { frame = k; shift = s; counts = c } ∷ []) []) new next
+  pub rival-kept : {c : Counts} {new : List ℕ} {next : ℕ} → isNeighbourShift (u .centre) s ≡ false → c ≡ at s
+      → Kept space start (cond (comesClose u c) (record { frame = k; shift = s; counts = c } ∷ []) []) new next
       → Kept space start (recordsOf at k (keepIf (isRival at u) (s ∷ []))) new next
-  unfolding keepIf isRival
-  rival-kept {c} e p =
+  unfolding keepIf
+  rival-kept {c} far e p =
       keeps-same
-      (ap (λ (n : Counts). cond (comesClose u s n) (record { frame = k; shift = s; counts = n } ∷ []) []) e ∙ sym (records-one at k (isRival at u s) s))
+      (ap (λ (n : Counts). cond (comesClose u n) (record { frame = k; shift = s; counts = n } ∷ []) []) e
+      ∙ sym (records-one at k (isRival at u s) s ∙ ap (λ (t : Bool). cond t (recordOf at k s ∷ []) []) (rival-by-counts at u s far)))
       p

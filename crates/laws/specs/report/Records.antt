@@ -1,6 +1,6 @@
 -- The rivals of a survey and the records of a report: what each says, that none is missing, their order and their number.
 use mathlib.Core.Path.{_≡_, refl, sym, ap, _∙_, subst}
-use mathlib.Core.Bool.{and-eq-true-iff}
+use mathlib.Core.Bool.{Bool, true, false, not, and-eq-true-iff}
 use mathlib.Core.Logic.{⊎-elim}
 use mathlib.Core.List.{[], List·Memᴰ, List·Memᴰ·not-nil}
 use Prim.Native.Nat.{ℕ, _*_, _≤_, _<_}
@@ -12,16 +12,21 @@ use lib.Signed.{_<ℤ_, <ℤ-irrefl}
 use Rattle.definitions.specs.Geometry.{Shift}
 use Rattle.definitions.specs.Difference.{Counts}
 use Rattle.definitions.specs.Align.{Stack}
-use Rattle.definitions.specs.Report.{Question, Rival, window, comesClose, isRival, survey, Terms, frameCounts, questionOf, RivalOf, rivals}
+use Rattle.definitions.specs.Report.{Question, isNeighbourShift, Rival, window, comesClose, isRival, survey, Terms, frameCounts, questionOf, RivalOf, rivals}
 use Rattle.definitions.specs.Report.{Record, Before, by-frame, by-row, by-column, frameRecords, records, recordsNeeded, recordsBytes}
-use Rattle.laws.specs.general.Cases.{lt-or-le, eq-or-ne}
+use Rattle.laws.specs.general.Cases.{lt-or-le, eq-or-ne, clash}
 use Rattle.laws.specs.general.Members.{in-kept, of-kept, in-map, of-map, in-joined, of-joined, joined-sum}
 use Rattle.laws.specs.general.Members.{Ordered, none, ordered-kept, ordered-map, ordered-joined, ordered-at}
+use Rattle.laws.specs.report.Neighbours.{neighbour-false, no-neighbour}
 use Rattle.laws.specs.report.RecordBytes.{bytes-length}
 use Rattle.laws.specs.general.Sums.{sum-ext}
 use Rattle.laws.specs.report.Windows.{Earlier, above, left, window-within, within-window, window-in-order}
 
 -- ---- the rivals
+
+not-true : (t : Bool) → not t ≡ true → t ≡ false
+not-true true e = clash (sym e)
+not-true false e = refl
 
 module _ (at : Shift → Counts) (u : Question) where
   -- a survey gives the rivals, and nothing else
@@ -30,19 +35,24 @@ module _ (at : Shift → Counts) (u : Question) where
   survey-rival s m =
       let t = of-kept (isRival at u) (window (u .centre) (u .reach)) m in
       let near = window-within (u .centre) (u .reach) s (t .0) in
-      let test = and-eq-true-iff (leb (u .floor) (at s .compared)) (leb (at s .disagreeing) (u .limit)) .0 (t .1) in
+      let both = and-eq-true-iff (not (isNeighbourShift (u .centre) s)) (comesClose u (at s)) .0 (t .1) in
+      let test = and-eq-true-iff (leb (u .floor) (at s .compared)) (leb (at s .disagreeing) (u .limit)) .0 (both .1) in
       record {
         across = near .0;
         down = near .1;
         compares = leb-true (u .floor) (at s .compared) (test .0);
         disagrees = leb-true (at s .disagreeing) (u .limit) (test .1);
+        no-neighbour-shift = no-neighbour (u .centre) s (not-true (isNeighbourShift (u .centre) s) (both .0));
       }
 
   pub rival-survey : (s : Shift) → Rival at u s → List·Memᴰ s (survey at u)
   unfolding survey comesClose isRival
   rival-survey s h = in-kept (isRival at u) (window (u .centre) (u .reach)) (within-window (u .centre) (u .reach) s (h .across, h .down))
-      (and-eq-true-iff (leb (u .floor) (at s .compared)) (leb (at s .disagreeing) (u .limit)) .1
-      (le-leb (u .floor) (at s .compared) (h .compares), le-leb (at s .disagreeing) (u .limit) (h .disagrees)))
+      (and-eq-true-iff (not (isNeighbourShift (u .centre) s)) (comesClose u (at s)) .1 (
+        ap not (neighbour-false (u .centre) s (h .no-neighbour-shift)),
+        and-eq-true-iff (leb (u .floor) (at s .compared)) (leb (at s .disagreeing) (u .limit)) .1
+            (le-leb (u .floor) (at s .compared) (h .compares), le-leb (at s .disagreeing) (u .limit) (h .disagrees)),
+      ))
 
   -- in order
   pub survey-in-order : Ordered Earlier (survey at u)

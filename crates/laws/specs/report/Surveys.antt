@@ -1,6 +1,6 @@
 -- A survey row by row, which shifts are no rivals, and how many rivals there can be.
 use mathlib.Core.Path.{_≡_, refl, ap, _∙_}
-use mathlib.Core.Bool.{Bool, true, false, _&&_}
+use mathlib.Core.Bool.{Bool, true, false, not, _&&_}
 use mathlib.Core.List.{List, []}
 use mathlib.Core.Logic.{⊎-elim}
 use Prim.Native.Nat.{ℕ, suc, _*_, _<_, _≤_}
@@ -13,13 +13,17 @@ use Rattle.definitions.specs.Build.{build, joined, keepIf}
 use Rattle.definitions.specs.Geometry.{Shift}
 use Rattle.definitions.specs.Difference.{Counts}
 use Rattle.definitions.specs.Align.{Stack}
-use Rattle.definitions.specs.Report.{Question, window, comesClose, isRival, survey, Terms, frameCounts, questionOf, rivals, frameRecords}
+use Rattle.definitions.specs.Report.{Question, isNeighbourShift, window, comesClose, isRival, survey, Terms, frameCounts, questionOf, rivals, frameRecords}
 use Rattle.laws.specs.general.Cases.{eq-or-ne}
 use Rattle.laws.specs.report.Keeping.{keep-joined, keep-nothing, keep-few}
 use Rattle.laws.specs.general.Members.{joined-sum}
 use Rattle.laws.specs.report.Records.{rivals-none, rivals-survey, frame-number}
 use Rattle.laws.specs.general.Sums.{sum-le}
 use Rattle.laws.specs.report.Windows.{windowAt}
+
+and-false : (t : Bool) → (t && false) ≡ false
+and-false true = refl
+and-false false = refl
 
 module _ (at : Shift → Counts) (u : Question) where
   -- ---- rows
@@ -37,26 +41,36 @@ module _ (at : Shift → Counts) (u : Question) where
       let side = suc (2 * u .reach) in
       keep-joined (isRival at u) side (λ (j : ℕ). build side (λ (i : ℕ). windowAt (u .centre) (u .reach) i j))
 
+  -- ---- a neighbour shift is no rival, and another shift is one by its counts
+
+  pub neighbour-no-rival : (s : Shift) → isNeighbourShift (u .centre) s ≡ true → isRival at u s ≡ false
+  unfolding isRival
+  neighbour-no-rival s e = ap (λ (t : Bool). not t && comesClose u (at s)) e
+
+  pub rival-by-counts : (s : Shift) → isNeighbourShift (u .centre) s ≡ false → isRival at u s ≡ comesClose u (at s)
+  unfolding isRival
+  rival-by-counts s e = ap (λ (t : Bool). not t && comesClose u (at s)) e
+
   -- ---- shifts that are no rivals
+
+  not-close : (s : Shift) → comesClose u (at s) ≡ false → isRival at u s ≡ false
+  unfolding isRival
+  not-close s e = let far = not (isNeighbourShift (u .centre) s) in ap (λ (t : Bool). far && t) e ∙ and-false far
 
   -- one that disagrees in more than the limit
   pub over-limit : (s : Shift) → u .limit < at s .disagreeing → isRival at u s ≡ false
-  unfolding comesClose isRival
+  unfolding comesClose
   over-limit s h =
       let compares = leb (u .floor) (at s .compared) in
-      ap (λ (t : Bool). compares && t) (lt-leb (at s .disagreeing) (u .limit) h) ∙ and-false compares
-    where
-      and-false : (t : Bool) → (t && false) ≡ false
-      and-false true = refl
-      and-false false = refl
+      not-close s (ap (λ (t : Bool). compares && t) (lt-leb (at s .disagreeing) (u .limit) h) ∙ and-false compares)
 
   -- all, where none compares as many as the floor
   pub survey-nothing : ((s : Shift) → at s .compared < u .floor) → survey at u ≡ []
-  unfolding survey comesClose isRival
+  unfolding survey comesClose
   survey-nothing few = keep-nothing (isRival at u) under-floor (window (u .centre) (u .reach))
     where
       under-floor : (s : Shift) → isRival at u s ≡ false
-      under-floor s = ap (λ (t : Bool). t && leb (at s .disagreeing) (u .limit)) (lt-leb (u .floor) (at s .compared) (few s))
+      under-floor s = not-close s (ap (λ (t : Bool). t && leb (at s .disagreeing) (u .limit)) (lt-leb (u .floor) (at s .compared) (few s)))
 
   -- ---- how many there can be: no more than the columns, and than the columns of all rows
 

@@ -73,7 +73,7 @@ returns c =
     let f = r .report .ensures in
     let e = answered (called r) (ap reportAnswer (sym (c .before .before .before .before .before .before .before .before .answer .given .1)) ∙ f .written .answered) in (
       put-as (c .before .before .put-summary .ensures)
-          (summary-text (called r) (e .0) (a .shifts .now) (a .verdicts .now) (replicate 1260 0) (ap (λ (x : Reported). x .crop) (e .1)) (ap (λ (x : Reported). x .records) (e .1))
+          (summary-text (called r) (e .0) (a .shifts .now) (a .verdicts .now) (replicate 140 0) (ap (λ (x : Reported). x .crop) (e .1)) (ap (λ (x : Reported). x .records) (e .1))
           (f .written .placed) (f .written .judged) (f .written .recorded)),
       lists r,
     )

@@ -13,7 +13,7 @@ use Rattle.mtb_align.proofs.survey.keep_rival.Tie as tie
 abbrev named : tie.Start → Record
 named s = let a = s .args in record { frame = a .frame; shift = shiftIn (a .shift); counts = countsIn (a .counts) }
 
--- by whether it is a rival
+-- by whether they come close
 by : (s : tie.Start) {t u r : Bool} {new : List ℕ} {next : ℕ} → r ≡ t → r ≡ u
     → Kept (s .args .space .now) (s .args .number) (cond t (named s ∷ []) []) new next
     → Kept (s .args .space .now) (s .args .number) (cond u (named s ∷ []) []) new next
@@ -26,10 +26,10 @@ returns : tie.Need-returns
 returns c =
     let test = c .before .before .before .before in
     let s = test .before .before .before in
-    by s (test .if1 .taken) (test .before .is-rival .ensures) (keeps-one _ _ (named s) (c .before .before .keep-record .ensures))
+    by s (test .if1 .taken) (test .before .comes-close .ensures) (keeps-one _ _ (named s) (c .before .before .keep-record .ensures))
 
 returns-2 : tie.Need-returns-2
-returns-2 c = let s = c .before .before .before in by s (c .if1 .left) (c .before .is-rival .ensures) (keeps-none _ _)
+returns-2 c = let s = c .before .before .before in by s (c .if1 .left) (c .before .comes-close .ensures) (keeps-none _ _)
 
 pub keep-rival-spec : {M : Type 1} → statement M
 keep-rival-spec =

@@ -3,8 +3,8 @@ use mathlib.Core.Bool.{Bool, _&&_}
 use lib.Dec.{leb}
 use borrow.Author.Tests.{le-leb, lt-leb}
 use Rattle.definitions.specs.Report.{comesClose}
-use Rattle.mtb_align.proofs.survey.is_rival.Statement.{statement}
-use Rattle.mtb_align.proofs.survey.is_rival.Tie as tie
+use Rattle.mtb_align.proofs.survey.comes_close.Statement.{statement}
+use Rattle.mtb_align.proofs.survey.comes_close.Tie as tie
 
 returns : tie.Need-returns
 unfolding comesClose
@@ -19,5 +19,5 @@ returns-2 c =
     let enough = c .before .before .if1 .left in
     sym (ap (λ (t : Bool). t && leb (a .counts .disagreeing) (a .question .limit)) (le-leb (a .question .floor) (a .counts .compared) enough))
 
-pub is-rival-spec : {M : Type 1} → statement M
-is-rival-spec = tie.close (tie.spec returns returns-2)
+pub comes-close-spec : {M : Type 1} → statement M
+comes-close-spec = tie.close (tie.spec returns returns-2)
