@@ -190,16 +190,17 @@ uint32_t mtb_align_stack(const size_t *widths, size_t widths_length, const size_
 enum mtb_verdict {
     MTB_REFERENCE = 0, /* the reference; it does not move */
     MTB_WEAK = 1,      /* the step compares fewer than floor pixels: its shift is no measurement */
-    MTB_ALONE = 2,     /* the step is the only rival within reach: every shift two or more pixels away compares too few or disagrees in too many */
-    MTB_CONTESTED = 3  /* the step is a rival, and so is another shift within reach, two or more pixels away */
+    MTB_ALONE = 2,     /* the step is the only rival: every shift within reach that is two or more pixels away compares fewer than floor
+                          pixels or disagrees in over margin more than the step */
+    MTB_CONTESTED = 3  /* the step is a rival, and so is a shift within reach that is two or more pixels away */
 };
 
 /* A record: 20 bytes, five numbers of 32 bits, low byte first: frame, x, y, disagreeing, compared. x and y are signed (two's complement)
    and relative to the frame's neighbour, as a step is, while `shifts` has totals. Frames rise, then y, then x. */
 #define MTB_RECORD 20
 
-/* Bytes that are enough for the records of any report: 4,992,300 for 16 frames and reach 64. At most so many: the eight shifts around each
-   step, which are no rivals, are counted in. */
+/* Bytes that are enough for the records of any report of so many frames at this reach: 4,992,300 for 16 and 64. They are those of the whole
+   window, the eight shifts around each step, which are no rivals, among them. */
 #define MTB_RECORD_SPACE(frames, reach) \
     ((size_t)MTB_RECORD * ((frames) > 0 ? (size_t)(frames) - 1 : 0) * (2 * (size_t)(reach) + 1) * (2 * (size_t)(reach) + 1))
 

@@ -11,10 +11,10 @@ use Rattle.definitions.specs.Geometry.{Shift, origin, indexOf, source, a
 use Rattle.definitions.specs.Shrink.{average, subsample, mean, halvedSample, shrink2, sideAt, samplesAt, levelOf, halvedSamples, levelStart, nowhere, placeOf}
 use Rattle.definitions.specs.Threshold.{bins, target, binsAdded, cut, thresholdBit, exclusionBit}
 use Rattle.definitions.specs.Bitmap.{wordsPerRow, bitOf, bitAt}
-use Rattle.definitions.specs.Difference.{Bitmaps, Counts, bitmapsOf, bitmapsIn, comparedBit, disagreeingBit, overlap, counts}
+use Rattle.definitions.specs.Difference.{Bitmaps, bitmapsOf, bitmapsIn, comparedBit, disagreeingBit, overlap, counts}
 use Rattle.definitions.specs.Align.{Options, Stack, shift, logUpTo, log2, levels, tried, leastFrom, earliestLeast, refine}
 use Rattle.definitions.specs.Align.{bitmapsAt, countsAt, stepAt, step, stackOf, exposure, neighbour, walk, stepOf}
-use Rattle.definitions.specs.Report.{Question, window, distance, isNeighbourShift, comesClose, isRival, survey, Terms, frameCounts, limitOf, rivals}
+use Rattle.definitions.specs.Report.{window, distance, isNeighbourShift, comesClose, isRival, survey, Terms, frameCounts, limitOf, rivals}
 use Rattle.definitions.specs.Report.{Record, bytes32, twosComplement, recordBytes, fieldOf, signedOf, recordAt, verdict}
 use Rattle.definitions.specs.Refusals.{answer, refused, sideOver, wrongLength, percentileOver, noReference, framesOver, cutChecks, pairDiffers, framesChecks}
 

@@ -102,7 +102,7 @@ module _ (a : Stack) (few : Few a) where
   unfolding records
   of-report k h e m = in-joined (a .frames) (frameRecords a inputTerms) k h m
 
-  frame-few : (k : ℕ) → k < a .frames → length (frameText a inputTerms k) ≤ 246
+  frame-few : (k : ℕ) → k < a .frames → length (frameText a inputTerms k) ≤ 54
   unfolding frameText frameLine
   frame-few k h =
       let l = frameRecords a inputTerms k in
@@ -135,7 +135,7 @@ module _ (a : Stack) (few : Few a) where
     omega (arith, few .high),
   )
 
-  report-few : length (reportText a inputTerms) ≤ 2002
+  report-few : length (reportText a inputTerms) ≤ 466
   unfolding reportText heading
   report-few =
       let r = reportCrop a in
@@ -151,7 +151,7 @@ module _ (a : Stack) (few : Few a) where
         decimal-few (r .width) 1 (omega arith),
         decimal-few (r .height) 1 (omega arith),
         joined-sum (a .frames) (frameText a inputTerms),
-        sum-le (a .frames) 246 (λ (k : ℕ). length (frameText a inputTerms k)) frame-few,
+        sum-le (a .frames) 54 (λ (k : ℕ). length (frameText a inputTerms k)) frame-few,
         few .most,
       )
 

@@ -202,7 +202,7 @@ module _ {A : Type 0} (R : A → A → Type 0) (irreflexive : (a : A) → R a a 
   ordered-alone (more {a = b} f (more {a = c} g p)) m h =
       absurd (apart (f c (List·Memᴰ·head refl)) (h b (List·Memᴰ·head refl)) (h c (List·Memᴰ·tail (List·Memᴰ·head refl))))
 
-  -- and one that has at most that one is no longer
+  -- and at most one where it may have none
   pub ordered-few : {a : A} {l : List A} → Ordered R l → ((b : A) → List·Memᴰ b l → b ≡ a) → length l ≤ 1
   ordered-few none h = omega arith
   ordered-few (more {a = b} f p) h = omega (arith, ordered-alone (more f p) (List·Memᴰ·head refl) (λ c m. h c m ∙ sym (h b (List·Memᴰ·head refl))))

@@ -17,7 +17,7 @@ use Rattle.laws.specs.search.StepBounds.{abs-parts}
 same-axis : (a b : ℤ) → natAbs (a -ℤ b) ≡ 0 → a ≡ b
 same-axis a b e = equal a b (omega (arith, abs-parts (a -ℤ b), minus a b))
 
-axis-same : (a b : ℤ) → a ≡ b → natAbs (a -ℤ b) ≡ 0
+pub axis-same : (a b : ℤ) → a ≡ b → natAbs (a -ℤ b) ≡ 0
 axis-same a b e = omega (arith, abs-parts (a -ℤ b), minus a b, alone (a -ℤ b), parts-of e)
 
 module _ (c s : Shift) where

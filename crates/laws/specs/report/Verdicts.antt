@@ -7,14 +7,14 @@ use Prim.Native.Nat.{ℕ, _+_, _≤_, _<_}
 use native.Mathlib.Omega.{arith}
 use borrow.Author.Tests.{lt-ltb, le-ltb, eq-eqb, ne-eqb}
 use lib.Dec.{ltb, eqb}
-use lib.IntN.{ℤ, natAbs, _-ℤ_, +ℤ-invr}
+use lib.IntN.{natAbs, _-ℤ_}
 use lib.ListN.{length}
 use Rattle.definitions.specs.Geometry.{Shift}
 use Rattle.definitions.specs.Align.{Stack, stepOf}
 use Rattle.definitions.specs.Report.{distance, Terms, frameCounts, limitOf, RivalOf, rivals, verdict}
 use Rattle.laws.specs.general.Cases.{lt-or-le, eq-or-ne}
 use Rattle.laws.specs.general.Members.{of-one, ordered-alone, ordered-few, ordered-another}
-use Rattle.laws.specs.report.Neighbours.{distance-none, none-distance, neighbour-one, one-neighbour}
+use Rattle.laws.specs.report.Neighbours.{axis-same, distance-none, none-distance, neighbour-one, one-neighbour}
 use Rattle.laws.specs.report.Records.{rivals-rival, rival-rivals, rivals-in-order}
 use Rattle.laws.specs.report.Windows.{Earlier, earlier-not-self}
 
@@ -22,10 +22,6 @@ use Rattle.laws.specs.report.Windows.{Earlier, earlier-not-self}
 pub verdict-reference : (a : Stack) (q : Terms) → verdict a q (a .reference) ≡ 0
 unfolding verdict
 verdict-reference a q = simp (eq-eqb (a .reference) (a .reference) refl)
-
--- every coordinate is within any reach of itself
-self-within : (z : ℤ) (r : ℕ) → natAbs (z -ℤ z) ≤ r
-self-within z r = let e : natAbs (z -ℤ z) ≡ 0 = ap natAbs (+ℤ-invr z) in omega arith
 
 -- how many pixels the step of frame k compares
 abbrev stepCompares : Stack → ℕ → ℕ
@@ -41,8 +37,8 @@ verdict-other a q k apart = simp (ne-eqb k (a .reference) apart)
 pub step-rival : (a : Stack) (q : Terms) (k : ℕ) → q .floor ≤ frameCounts a k (stepOf a k) .compared → RivalOf a q k (stepOf a k)
 unfolding limitOf
 step-rival a q k l = record {
-  across = self-within (stepOf a k .x) (q .reach);
-  down = self-within (stepOf a k .y) (q .reach);
+  across = let z = stepOf a k .x in omega (arith, axis-same z z refl);
+  down = let z = stepOf a k .y in omega (arith, axis-same z z refl);
   compares = l;
   disagrees = omega arith;
   no-neighbour-shift = λ n. n .other refl;
