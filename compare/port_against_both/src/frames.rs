@@ -2,6 +2,7 @@
 
 use naive::bitmap::{self, Bitmap};
 use naive::gray::{self, Frame};
+use naive::refusals::HIGHEST_PERCENTILE;
 use naive::shrink::{self, Shrink};
 use naive::threshold::{self as cut, Packed};
 use port::frames as port;
@@ -58,11 +59,71 @@ fn shrink2(random: &mut Random, case: usize, mode: Shrink) -> Outcome {
 pub fn threshold(random: &mut Random, case: usize) -> Outcome {
     let claim = Claim::any(random, case, 30);
     let samples = claim.samples(random);
-    let percentile = percentile_of(case);
-    let mut out = Lent::room(random, 1);
-    let input = format!("{claim}, samples {samples}, percentile {percentile}");
+    cut_agrees(
+        random,
+        &samples,
+        (claim.width, claim.height),
+        percentile_of(case),
+    )
+}
 
-    let frame = Frame::new(samples.list(), claim.width, claim.height);
+/// Rows of no, one and several fours of samples, with and without a rest.
+const TALLIED_WIDTHS: [usize; 6] = [0, 1, 3, 63, 64, 65];
+const TALLIED_HEIGHTS: [usize; 5] = [0, 1, 7, 8, 9];
+const TALLIED_SIZES: usize = TALLIED_WIDTHS.len() * TALLIED_HEIGHTS.len();
+pub const TALLIES: usize = 2 * TALLIED_SIZES * (HIGHEST_PERCENTILE as usize + 1);
+
+/// Two values, and as many samples of the lower one as the target asks for, or one
+/// fewer: a sample that is left out of the bins or counted twice moves the cut. Every
+/// size with every percentile.
+pub fn tally(random: &mut Random, case: usize) -> Outcome {
+    let (fewer, size, percentile) = (
+        case % 2,
+        case / 2 % TALLIED_SIZES,
+        (case / (2 * TALLIED_SIZES)) as u8,
+    );
+    let width = TALLIED_WIDTHS[size % TALLIED_WIDTHS.len()];
+    let height = TALLIED_HEIGHTS[size / TALLIED_WIDTHS.len()];
+    let target = width * height * usize::from(percentile) / 100;
+
+    let higher = 1 + random.below(255);
+    let mut samples = vec![higher as u8; width * height];
+    let lower = random.below(higher) as u8;
+    for place in places(random, width, height)
+        .into_iter()
+        .take(target.saturating_sub(fewer))
+    {
+        samples[place] = lower;
+    }
+    let samples = Lent::holding(random, &samples);
+    cut_agrees(random, &samples, (width, height), percentile)
+}
+
+/// The places of a frame in any order; of three frames one has the last column's first,
+/// one those of the last row.
+fn places(random: &mut Random, width: usize, height: usize) -> Vec<usize> {
+    let mut places: Vec<usize> = (0..width * height).collect();
+    for end in (1..places.len()).rev() {
+        places.swap(end, random.below(end + 1));
+    }
+    match random.below(3) {
+        0 => places.sort_by_key(|place| place % width != width - 1),
+        1 => places.sort_by_key(|place| place / width != height - 1),
+        _ => {}
+    }
+    places
+}
+
+fn cut_agrees(
+    random: &mut Random,
+    samples: &Lent<u8>,
+    (width, height): (usize, usize),
+    percentile: u8,
+) -> Outcome {
+    let mut out = Lent::room(random, 1);
+    let input = format!("{width} by {height}, samples {samples}, percentile {percentile}");
+
+    let frame = Frame::new(samples.list(), width, height);
     let status = port::threshold(frame, percentile, out.one_mut());
     samples.is_kept(&input)?;
     agreed(

@@ -9,7 +9,7 @@ use Rattle.definitions.specs.Sum.{sum, countIf}
 use Rattle.definitions.specs.Build.{build, joined, keepIf}
 use Rattle.definitions.specs.Geometry.{Shift, origin, indexOf, source, atSources}
 use Rattle.definitions.specs.Shrink.{average, subsample, mean, halvedSample, shrink2, sideAt, samplesAt, levelOf, halvedSamples, levelStart, nowhere, placeOf}
-use Rattle.definitions.specs.Threshold.{bins, target, binsAdded, cut, thresholdBit, exclusionBit}
+use Rattle.definitions.specs.Threshold.{bins, lastRows, target, binsAdded, cut, thresholdBit, exclusionBit}
 use Rattle.definitions.specs.Bitmap.{wordsPerRow, bitOf, bitAt}
 use Rattle.definitions.specs.Difference.{Bitmaps, bitmapsOf, bitmapsIn, comparedBit, disagreeingBit, overlap, counts}
 use Rattle.definitions.specs.Align.{Options, Stack, shift, logUpTo, log2, levels, tried, leastFrom, earliestLeast, refine}
@@ -36,6 +36,11 @@ mask-after-xor = refl
 tie-to-the-centre : refine (λ (s : Shift). 3) (shift (pos 5) (negsuc 6)) ≡ shift (pos 5) (negsuc 6)
 unfolding tried leastFrom earliestLeast refine
 tie-to-the-centre = refl
+
+-- The last two of three rows of two.
+last-two-rows : lastRows 2 3 (10 ∷ 11 ∷ 20 ∷ 21 ∷ 30 ∷ 31 ∷ []) 2 ≡ 20 ∷ 21 ∷ 30 ∷ 31 ∷ []
+unfolding lastRows
+last-two-rows = refl
 
 abbrev usual : Options
 usual = record { bits = 6; tolerance = 4; shrink = average }

@@ -3,7 +3,7 @@ use Prim.Native.Nat.{ℕ, suc, _+_, _-_, _*_, _/_}
 use mathlib.Core.Bool.{true, false}
 use mathlib.Core.List.{List, [], _∷_}
 use lib.Dec.{ltb, eqb}
-use lib.ListN.{length}
+use lib.ListN.{length, drop}
 use Rattle.definitions.specs.Sum.{bit, countIf}
 use Rattle.definitions.specs.Build.{build}
 
@@ -14,6 +14,10 @@ binOf s v = countIf (λ (a : ℕ). eqb a v) s
 -- The 256 bins of a frame.
 unfoldable pub bins : List ℕ → List ℕ
 bins s = build 256 (binOf s)
+
+-- The samples of the last k rows of a frame of w by h: those from row h - k on.
+unfoldable pub lastRows : ℕ → ℕ → List ℕ → ℕ → List ℕ
+lastRows w h s k = drop ((h - k) * w) s
 
 -- 01's "target": samples times percentile over 100, rounded down.
 unfoldable pub target : List ℕ → ℕ → ℕ

@@ -1,21 +1,21 @@
--- Samples counted into four lanes of 256 bins: the room of a count, none, one more, all.
+-- Samples counted into four lanes of 256 bins: the room of a count, none, one more, some more, all.
 use mathlib.Core.Path.{_≡_, refl, sym, ap, _∙_}
 use mathlib.Core.Bool.{Bool, true, false}
-use mathlib.Core.List.{List}
+use mathlib.Core.List.{List, [], _++_}
 use Prim.Native.Nat.{ℕ, _+_, _≤_, _<_}
 use native.Mathlib.Nat.{zero-add}
 use native.Mathlib.Omega.{arith}
 use borrow.Author.Tests.{eq-eqb, ne-eqb, eqb-true, eqb-false}
 use lib.Dec.{eqb}
-use lib.ListN.{length, getD, set, take, replicate, length-set, length-take, length-replicate, getD-replicate}
-use lib.Seq.{getD-set-same, getD-set-other, take-all}
+use lib.ListN.{length, getD, set, take, drop, replicate, length-set, length-take, length-drop, length-replicate, getD-replicate}
+use lib.Seq.{getD-set-same, getD-set-other, getD-drop}
 use Rattle.definitions.specs.Sum.{bit}
 use Rattle.definitions.specs.Build.{build}
 use Rattle.definitions.specs.Threshold.{binOf, bins}
 use Rattle.laws.specs.general.Lists.{build-same}
-use Rattle.laws.specs.general.Counts.{count-none, count-more, count-le}
+use Rattle.laws.specs.general.Counts.{count-none, count-append, count-more, count-le}
 use Rattle.laws.specs.images.Cut.{Bytes}
-use Rattle.mtb_align.specs.Tally.{laneTotal, Tally}
+use Rattle.mtb_align.specs.Tally.{laneTotal, Tally, More, Room}
 
 -- where the lanes start
 pub data Lane : ℕ → Type 0 where
@@ -74,10 +74,18 @@ total-more l {k} s v n e p q =
     omega (arith, hit s v n p q, one-more l (k + s) v h, one-more l (k + s) (256 + v) h, one-more l (k + s) (512 + v) h, one-more l (k + s) (768 + v) h)
 
 -- ---- the lanes as a loop fills them
+-- a bin counts no more than there are samples
+bin-of-le : (s : List ℕ) (v : ℕ) → binOf s v ≤ length s
+bin-of-le s v = count-le (λ (a : ℕ). eqb a v) s
+
+-- one list after another
+bin-append : (a b : List ℕ) (v : ℕ) → binOf (a ++ b) v ≡ binOf a v + binOf b v
+bin-append a b v = count-append (λ (x : ℕ). eqb x v) a b
+
 -- empty lanes count no sample
-pub tally-none : (samples : List ℕ) → Tally (replicate 1024 0) samples 0
+pub tally-none : {counted : List ℕ} → counted ≡ [] → Tally (replicate 1024 0) counted
 unfolding laneTotal
-tally-none samples = record {
+tally-none e = record {
   long = length-replicate {A = ℕ} 1024 0;
   counts = λ v h.
       omega (
@@ -86,36 +94,58 @@ tally-none samples = record {
         getD-replicate {A = ℕ} 1024 (256 + v) 0 0 (omega arith),
         getD-replicate {A = ℕ} 1024 (512 + v) 0 0 (omega arith),
         getD-replicate {A = ℕ} 1024 (768 + v) 0 0 (omega arith),
-        count-none (λ (a : ℕ). eqb a v),
+        ap (λ (s : List ℕ). binOf s v) e ∙ count-none (λ (a : ℕ). eqb a v),
       );
 }
 
--- a total counts none but the first i samples
-pub tally-le : {lanes samples : List ℕ} {i : ℕ} → Tally lanes samples i → (v : ℕ) → v < 256 → laneTotal lanes v ≤ i
-tally-le {lanes} {samples} {i} t v h = omega (arith, t .counts v h, count-le (λ (a : ℕ). eqb a v) (take i samples), length-take i samples)
+-- a total counts none but the samples
+pub tally-le : {lanes counted : List ℕ} → Tally lanes counted → (v : ℕ) → v < 256 → laneTotal lanes v ≤ length counted
+tally-le {lanes} {counted} t v h = omega (arith, t .counts v h, bin-of-le counted v)
 
-module _ {lanes samples : List ℕ} {i k : ℕ} (t : Tally lanes samples i) (n : Lane k) (bytes : Bytes samples) (h : i < length samples) where
-  -- there is room for sample i
-  pub tally-fits : length samples ≤ 67108864 → (length lanes ≡ 1024) × (k ≤ 768) × (getD lanes (k + getD samples i 0) 0 < 67108864)
-  tally-fits m =
-      let s = getD samples i 0 in
-      (t .long, lane-within n, omega (arith, bin-le lanes s n, tally-le t s (bytes i h)))
-
-  -- and then the first j, which is one more, are counted
-  pub tally-more : {j : ℕ} {new : List ℕ} → i + 1 ≡ j → new ≡ set lanes (k + getD samples i 0) (getD lanes (k + getD samples i 0) 0 + 1) → Tally new samples j
-  tally-more {j} {new} d e =
-      let s = getD samples i 0 in
-      record {
-        long = ap length e ∙ length-set lanes _ _ ∙ t .long;
-        counts = λ v q.
-            ap (λ (l : List ℕ). laneTotal l v) e ∙ total-more lanes s v n (t .long) (bytes i h) q
-            ∙ ap (λ (x : ℕ). x + bit (eqb s v)) (t .counts v q)
-            ∙ sym (count-more (λ (a : ℕ). eqb a v) samples i h)
-            ∙ ap (λ (x : ℕ). binOf (take x samples) v) d;
-      }
-
--- all of them: the totals are the bins
-pub tally-done : {lanes samples : List ℕ} {i : ℕ} → Tally lanes samples i → i ≡ length samples → build 256 (laneTotal lanes) ≡ bins samples
+-- the totals of a frame's samples are its bins
+pub tally-done : {lanes samples : List ℕ} → Tally lanes samples → build 256 (laneTotal lanes) ≡ bins samples
 unfolding bins
-tally-done {lanes} {samples} {i} t e =
-    build-same 256 (laneTotal lanes) (binOf samples) (λ v q. t .counts v q ∙ ap (λ (s : List ℕ). binOf s v) (take-all i samples (omega arith)))
+tally-done {lanes} {samples} t = build-same 256 (laneTotal lanes) (binOf samples) (t .counts)
+
+-- samples more stand before those that were counted
+pub tally-more : {before lanes counted more : List ℕ} → Tally before counted → More before lanes more → Tally lanes (more ++ counted)
+tally-more {before} {lanes} {counted} {more} t m =
+    record { long = m .long; counts = λ v h. omega (arith, m .counts v h, t .counts v h, bin-append more counted v) }
+
+-- no sample more
+pub more-none : {lanes : List ℕ} {n : ℕ} → Room lanes n → More lanes lanes []
+more-none {lanes} r = record { long = r .long; counts = λ v h. omega (arith, count-none (λ (a : ℕ). eqb a v)) }
+
+-- some, and then others, which stand before them in the list
+pub more-before : {before between lanes rest front : List ℕ} → More before between rest → More between lanes front → More before lanes (front ++ rest)
+more-before {rest = rest} {front = front} m n =
+    record { long = n .long; counts = λ v h. omega (arith, m .counts v h, n .counts v h, bin-append front rest v) }
+
+-- what room is left
+pub more-room : {before lanes counted : List ℕ} {n m : ℕ} → Room before n → More before lanes counted → length counted + m ≤ n → Room lanes m
+more-room {before} {lanes} {counted} r t l =
+    record { long = t .long; fits = λ v h. omega (arith, r .fits v h, t .counts v h, bin-of-le counted v) }
+
+-- of the samples from `at` on i are counted, and the next, at p, is a byte: there is room for it, and then one more is counted
+module _ (s : List ℕ) (at : ℕ) {i p : ℕ} {before lanes : List ℕ} {n k : ℕ} (t : More before lanes (take i (drop at s))) (r : Room before n) (l : Lane k)
+    (bytes : Bytes s) (e : at + i ≡ p) (h : p < length s) (m : i < n) where
+  pub next-fits : (length lanes ≡ 1024) × (k ≤ 768) × (getD lanes (k + getD s p 0) 0 < 67108864)
+  next-fits =
+      let left : Room lanes 1 = more-room r t (omega (arith, length-take i (drop at s))) in
+      (t .long, lane-within l, omega (arith, bin-le lanes (getD s p 0) l, left .fits (getD s p 0) (bytes p h)))
+
+  pub next-more : {j : ℕ} {new : List ℕ} → i + 1 ≡ j → new ≡ set lanes (k + getD s p 0) (getD lanes (k + getD s p 0) 0 + 1) → More before new (take j (drop at s))
+  next-more {j} {new} d q =
+      let here : getD (drop at s) i 0 ≡ getD s p 0 = getD-drop at s i 0 ∙ ap (λ (x : ℕ). getD s x 0) e in
+      record {
+        long = ap length q ∙ length-set lanes _ _ ∙ t .long;
+        counts = λ v g.
+            ap (λ (x : List ℕ). laneTotal x v) q ∙ total-more lanes (getD s p 0) v l (t .long) (bytes p h) g
+            ∙ omega (
+              arith,
+              t .counts v g,
+              count-more (λ (a : ℕ). eqb a v) (drop at s) i (simp length-drop (omega arith)),
+              ap (λ (a : ℕ). bit (eqb a v)) here,
+              ap (λ (x : ℕ). binOf (take x (drop at s)) v) d,
+            );
+      }

@@ -3,19 +3,18 @@ use super::bitmap::words_per_row;
 use super::error::Error;
 use super::error::Outcome;
 use super::error::side_over;
-use super::numbers::min;
 use super::strips::pack;
 ghost use mathlib.Core.Path.{_≡_};
 ghost use Prim.Native.Nat.{ℕ, _+_, _*_, _/_, _≤_, _<_};
-ghost use lib.ListN.{length, getD, set};
+ghost use lib.ListN.{length, getD, set, take, drop};
 ghost use Rattle.definitions.specs.Sum.{sum};
 ghost use Rattle.definitions.specs.Build.{build};
-ghost use Rattle.definitions.specs.Threshold.{bins, binsAdded, cut};
+ghost use Rattle.definitions.specs.Threshold.{bins, lastRows, binsAdded, cut};
 ghost use Rattle.definitions.specs.Bitmap.{packed};
 ghost use Rattle.definitions.specs.Difference.{bitmapsOf};
 ghost use Rattle.definitions.specs.Refusals.{answer, after, cutChecks, packingChecks};
 ghost use Rattle.mtb_align.specs.Answers.{outcome, cutAnswer};
-ghost use Rattle.mtb_align.specs.Tally.{laneTotal, Tally};
+ghost use Rattle.mtb_align.specs.Tally.{laneTotal, Tally, More, Room};
 
 // Distinct sample values.
 const LEVELS: usize = 256;
@@ -34,10 +33,10 @@ fn count_one(lanes: &mut [u32; 4 * LEVELS], lane: usize, sample: u8)
 }
 
 // Four samples, each into a lane of its own, so that no count waits for the one before it. How a value's count is spread over
-// the lanes is left open on purpose, here and in `tally_rows`: only the total of the four is read.
+// the lanes is left open on purpose, here and in what calls this: only the total of the four is read.
 fn count_four(lanes: &mut [u32; 4 * LEVELS], samples: &[u8], at: usize)
-    requires { ⌜ Tally (now lanes) (now samples) at × (length (now samples) ≤ 67108864) × (at + 4 ≤ length (now samples)) ⌝ }
-    ensures { λ _. ⌜ Tally (now (lanes .exit)) (now (samples .entry)) (at + 4) ⌝ }
+    requires { ⌜ Room (now lanes) 4 × (at + 4 ≤ length (now samples)) ⌝ }
+    ensures { λ _. ⌜ More (now (lanes .entry)) (now (lanes .exit)) (take 4 (drop at (now (samples .entry)))) ⌝ }
 {
     count_one(lanes, 0, samples[at]);
     count_one(lanes, LEVELS, samples[at + 1]);
@@ -45,21 +44,46 @@ fn count_four(lanes: &mut [u32; 4 * LEVELS], samples: &[u8], at: usize)
     count_one(lanes, 3 * LEVELS, samples[at + 3]);
 }
 
-// The lanes count the samples before `from`, and then n more.
-fn tally_rows(lanes: &mut [u32; 4 * LEVELS], samples: &[u8], from: usize, n: usize)
-    requires { ⌜ Tally (now lanes) (now samples) from × (length (now samples) ≤ 67108864) × (from + n ≤ length (now samples)) ⌝ }
-    ensures { λ _. ⌜ Tally (now (lanes .exit)) (now (samples .entry)) (from + n) ⌝ }
+// The first samples, at most three, each into a lane of its own too: very narrow frames have no others.
+fn count_rest(lanes: &mut [u32; 4 * LEVELS], samples: &[u8], rest: usize)
+    requires { ⌜ (rest ≤ 3) × (rest ≤ length (now samples)) × Room (now lanes) rest ⌝ }
+    ensures { λ _. ⌜ More (now (lanes .entry)) (now (lanes .exit)) (take rest (now (samples .entry))) ⌝ }
 {
-    let end = from + n;
-    let mut at = from;
-    while end - at >= 4 {
-        count_four(lanes, samples, at);
-        at += 4;
+    if rest == 0 {
+        return;
     }
-    while at < end {
-        count_one(lanes, 0, samples[at]);
-        at += 1;
+    count_one(lanes, 0, samples[0]);
+    if rest == 1 {
+        return;
     }
+    count_one(lanes, LEVELS, samples[1]);
+    if rest == 2 {
+        return;
+    }
+    count_one(lanes, 2 * LEVELS, samples[2]);
+}
+
+// All of these samples. They are gone through backwards, as the rows are, since memory is read ahead in one direction.
+fn tally_samples(lanes: &mut [u32; 4 * LEVELS], samples: &[u8])
+    requires { ⌜ Room (now lanes) (length (now samples)) ⌝ }
+    ensures { λ _. ⌜ More (now (lanes .entry)) (now (lanes .exit)) (now (samples .entry)) ⌝ }
+{
+    let mut left = samples.len();
+    while left >= 4 {
+        left -= 4;
+        count_four(lanes, samples, left);
+    }
+    count_rest(lanes, samples, left);
+}
+
+// Row height - 1 - k, on top of the k rows below it.
+fn tally_row(lanes: &mut [u32; 4 * LEVELS], samples: &[u8], width: usize, height: usize, k: usize)
+    requires { ⌜ (width ≤ 8192) × (height ≤ 8192) × (k < height) × (length (now samples) ≡ width * height) × Tally (now lanes) (lastRows width height (now samples) k) ⌝ }
+    ensures { λ _. ⌜ Tally (now (lanes .exit)) (lastRows width height (now (samples .entry)) (k + 1)) ⌝ }
+{
+    let start = (height - 1 - k) * width;
+    let end = start + width;
+    tally_samples(lanes, &samples[start..end]);
 }
 
 // What the four lanes hold together at the value v.
@@ -84,20 +108,14 @@ fn fold_lanes(lanes: &[u32; 4 * LEVELS]) -> [u64; LEVELS]
     bins
 }
 
-// How many samples have each of the 256 values.
+// How many samples have each of the 256 values. The last row is tallied first, as the camera's driver fills a frame from there.
 pub(crate) fn histogram(samples: &[u8], width: usize, height: usize) -> [u64; LEVELS]
     requires { ⌜ (width ≤ 8192) × (height ≤ 8192) × (length (now samples) ≡ width * height) ⌝ }
     ensures { λ r. ⌜ r ≡ bins (now (samples .entry)) ⌝ }
 {
     let mut lanes = [0u32; 4 * LEVELS];
-    let mut from: usize = 0;
-    let mut y: usize = 0;
-    while y < height {
-        // Rows that are tallied together: short rows one by one would cost more than their samples.
-        let rows = min(height - y, 8);
-        tally_rows(&mut lanes, samples, from, rows * width);
-        from += rows * width;
-        y += rows;
+    for k in 0..height {
+        tally_row(&mut lanes, samples, width, height, k);
     }
     fold_lanes(&lanes)
 }

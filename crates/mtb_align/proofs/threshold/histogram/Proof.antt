@@ -1,10 +1,9 @@
--- After y rows the lanes together count the samples of the first y rows.
-use mathlib.Core.Path.{_≡_, sym, ap, _∙_}
-use Prim.Native.Nat.{ℕ, _+_, _-_, _*_, _≤_}
-use borrow.Author.Needs.{needs}
-use native.Mathlib.Nat.{zero-mul, add-mul, mul-comm, mul-le-mul-right}
+-- After k rows the lanes together count the samples of the last k rows.
+use mathlib.Core.Path.{_≡_, ap, _∙_}
+use Prim.Native.Nat.{_-_, _≤_}
 use native.Mathlib.Omega.{arith}
-use lib.ListN.{length}
+use Rattle.definitions.specs.Threshold.{lastRows}
+use Rattle.laws.specs.images.LastRows.{last-rows-none, last-rows-all}
 use Rattle.laws.specs.images.Sizes.{area}
 use Rattle.mtb_align.specs.Tally.{Tally}
 use Rattle.mtb_align.proofs.Lanes.{tally-none, tally-le, tally-done}
@@ -12,63 +11,41 @@ use Rattle.mtb_align.proofs.threshold.histogram.Statement.{statement}
 use Rattle.mtb_align.proofs.threshold.histogram.Tie as tie
 
 abbrev Inv-loop : tie.InvT-loop
-Inv-loop samples width height lanes₀ from₀ y₀ lanes from y = (y ≤ height) × (from ≡ y * width) × Tally lanes samples from
+Inv-loop samples width height lanes₀ k₀ lanes k = (k ≤ height) × Tally lanes (lastRows width height samples k)
 
 abbrev μ-loop : tie.MeasureT-loop
-μ-loop samples width height lanes₀ from₀ y₀ lanes from y = height - y
+μ-loop samples width height lanes₀ k₀ lanes k = height - k
 
--- the samples are few
-few : (s : tie.Start Inv-loop μ-loop) → length (s .args .samples .now) ≤ 67108864
-few s = omega (arith, area (s .args .width) (s .args .height) (s .pre .0) (s .pre .1))
-
--- the next rows lie inside the frame
-inside : (c : tie.After-min Inv-loop μ-loop) → let x = c .before .before .before .before .args in c .before .before .loop .from + c .min .result * x .width ≤ length (x .samples .now)
-inside c =
-    let x = c .before .before .before .before .args in
-    let l = c .before .before .loop in
-    let n = c .min .result in
-    let fit : l .y + n ≤ x .height = omega (arith, c .min .ensures, l .inv .0) in
-    omega (arith, l .inv .1, add-mul (l .y) n (x .width), mul-le-mul-right (x .width) fit, mul-comm (x .width) (x .height))
-
--- all rows are all samples
-whole : (c : tie.After-loop Inv-loop μ-loop) → c .before .loop .from ≡ length (c .before .before .before .args .samples .now)
+-- all rows are counted
+whole : (c : tie.After-loop Inv-loop μ-loop) → Tally (c .before .loop .lanes) (c .before .before .before .args .samples .now)
 whole c =
     let x = c .before .before .before .args in
     let l = c .before .loop in
-    let e : l .y ≡ x .height = omega arith in
-    l .inv .1 ∙ ap (λ (n : ℕ). n * x .width) e ∙ omega (arith, mul-comm (x .width) (x .height))
+    let e : l .k ≡ x .height = omega arith in
+    rw (ap (lastRows (x .width) (x .height) (x .samples .now)) e ∙ last-rows-all (x .width) (x .height) (x .samples .now)) at (l .inv .1)
 
 loop-holds : tie.Need-loop-holds Inv-loop μ-loop
-loop-holds c = (omega arith, sym (zero-mul _), tally-none _)
+loop-holds c =
+    let a = c .before in
+    let x = a .args in
+    (omega arith, tally-none (last-rows-none (x .width) (x .height) (x .samples .now) (a .pre .2)))
 
-mul-tally-rows : tie.Need-mul-tally-rows Inv-loop μ-loop
-mul-tally-rows c = omega (arith, few (c .before .before .before .before .before), inside (c .before))
-
-tally-rows-requires : tie.Need-tally-rows-requires Inv-loop μ-loop
-tally-rows-requires c κs = (c .before .before .before .loop .inv .2, few (c .before .before .before .before .before), inside (c .before))
-
-mul-from : tie.Need-mul-from Inv-loop μ-loop
-mul-from c = omega (arith, few (c .before .before .before .before .before .before), inside (c .before .before))
-
-add-from : tie.Need-add-from Inv-loop μ-loop
-add-from c = omega (arith, few (c .before .before .before .before .before .before), inside (c .before .before))
+tally-row-requires : tie.Need-tally-row-requires Inv-loop μ-loop
+tally-row-requires c κs =
+    let a = c .before .before .before .before in
+    (a .pre .0, a .pre .1, omega arith, a .pre .2, c .before .before .loop .inv .1)
 
 loop-again : tie.Need-loop-again Inv-loop μ-loop
-loop-again c =
-    let l = c .before .before .before .before .loop in
-    let n = c .before .before .min .result in
-    let w = c .before .before .before .before .before .before .args .width in
-    (omega (arith, c .before .before .min .ensures, l .inv .0), omega (arith, l .inv .1, add-mul (l .y) n w), c .tally-rows .ensures)
+loop-again c = (omega arith, c .tally-row .ensures)
 
 fold-lanes-requires : tie.Need-fold-lanes-requires Inv-loop μ-loop
 fold-lanes-requires c κs =
     let b = c .before in
-    λ v h. omega (arith, tally-le (b .before .loop .inv .2) v h, whole b, few (b .before .before .before))
+    let a = b .before .before .before in
+    λ v h. omega (arith, tally-le (whole b) v h, area (a .args .width) (a .args .height) (a .pre .0) (a .pre .1), a .pre .2)
 
 returns : tie.Need-returns Inv-loop μ-loop
-returns c =
-    let b = c .before .before in
-    c .fold-lanes .ensures ∙ tally-done (b .before .loop .inv .2) (whole b)
+returns c = c .fold-lanes .ensures ∙ tally-done (whole (c .before .before))
 
 pub histogram-spec : {M : Type 1} → statement M
 histogram-spec =
@@ -77,12 +54,7 @@ histogram-spec =
     Inv-loop
     μ-loop
     loop-holds
-    (λ c. omega arith)
-    (λ c κs. search needs)
-    mul-tally-rows
-    tally-rows-requires
-    mul-from
-    add-from
+    tally-row-requires
     (λ c. omega arith)
     (λ c. omega arith)
     loop-again
