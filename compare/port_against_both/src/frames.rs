@@ -74,8 +74,8 @@ const TALLIED_SIZES: usize = TALLIED_WIDTHS.len() * TALLIED_HEIGHTS.len();
 pub const TALLIES: usize = 2 * TALLIED_SIZES * (HIGHEST_PERCENTILE as usize + 1);
 
 /// Two values, and as many samples of the lower one as the target asks for, or one
-/// fewer: a sample that is left out of the bins or counted twice moves the cut. Every
-/// size with every percentile.
+/// fewer: where one of them is left out of the bins, or counted twice, the cut moves.
+/// Every size with every percentile.
 pub fn tally(random: &mut Random, case: usize) -> Outcome {
     let (fewer, size, percentile) = (
         case % 2,
