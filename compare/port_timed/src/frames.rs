@@ -62,6 +62,7 @@ pub fn shrink2(input: &Input) -> Vec<Timed> {
 
 pub const THRESHOLD: &str = "threshold";
 pub const COMPUTE_BITMAPS: &str = "compute_bitmaps";
+pub const PACKING_ALONE: &str = "packing alone";
 
 /// The cut and the bitmaps in one race, as packing alone is their difference.
 pub fn cut_and_bitmaps(input: &Input) -> Vec<Timed> {
@@ -102,10 +103,10 @@ pub fn packing_alone(all: &[Timed]) -> Vec<Timed> {
     of(COMPUTE_BITMAPS)
         .zip(of(THRESHOLD))
         .map(|(whole, cut)| Timed {
-            call: "packing alone",
+            call: PACKING_ALONE.to_owned(),
             goal: 5.0,
             times: [whole.times[0], whole.times[1] - cut.times[1]],
-            ..*whole
+            ..whole.clone()
         })
         .collect()
 }

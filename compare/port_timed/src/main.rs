@@ -1,6 +1,10 @@
 //! Times the original and the port in one run on the same inputs and prints a table
-//! for each call. Arguments name the calls that are timed; without any, all are.
+//! for each call. Arguments name the calls that are timed; without any, all are. After
+//! `--plain` it prints a line for each case instead, after `--known` nothing: an unknown call
+//! is refused. After `--beside`, with a file of plain lines from before a change and one from
+//! after it, it prints tables of both, after `--again` the calls that are to be timed again.
 
+mod beside;
 mod counts;
 mod frames;
 mod inputs;
@@ -11,16 +15,23 @@ mod original;
 mod race;
 mod report;
 mod search;
+mod table;
 
+use std::fs;
+use std::process::exit;
+
+use beside::Beside;
 use inputs::{Input, Kind, SIZES, Size};
+use table::{Entry, nanoseconds};
 
 /// The time of a call on an input, in nanoseconds: of the original, then of the port.
+#[derive(Clone)]
 struct Timed {
-    call: &'static str,
+    call: String,
     /// How many times as fast as the original the port is meant to be.
     goal: f64,
     size: Size,
-    kind: Kind,
+    kind: String,
     times: [f64; 2],
     /// That of OpenCV, where it has the call and is at hand.
     opencv: Option<f64>,
@@ -28,10 +39,10 @@ struct Timed {
 
 fn timed(call: &'static str, goal: f64, input: &Input, times: [f64; 2]) -> Timed {
     Timed {
-        call,
+        call: call.to_owned(),
         goal,
         size: input.size,
-        kind: input.kind,
+        kind: input.kind.name().to_owned(),
         times,
         opencv: None,
     }
@@ -44,48 +55,153 @@ impl Timed {
 
     /// As far as the two printed decimals tell.
     fn is_below(&self, goal: f64) -> bool {
-        self.ratio() < goal - 0.005
+        below(self.ratio(), goal, 2)
+    }
+
+    fn is_case(&self, other: &Self) -> bool {
+        (&self.call, self.size, &self.kind) == (&other.call, other.size, &other.kind)
+    }
+
+    fn case_name(&self) -> String {
+        let (width, height) = self.size;
+        format!("{} {width}x{height} {}", self.call, self.kind)
+    }
+
+    /// Of this and another run of the case.
+    fn take_least(&mut self, again: &Self) {
+        for (time, again) in self.times.iter_mut().zip(again.times) {
+            *time = time.min(again);
+        }
+        self.opencv = self
+            .opencv
+            .zip(again.opencv)
+            .map(|(one, other)| one.min(other));
     }
 }
 
-/// Calls by the name that an argument gives. Each side meets its input through one
-/// pointer that the compiler cannot see through.
-type Call = (&'static str, fn(&Input) -> Vec<Timed>);
+/// As far as so many decimals tell.
+fn below(ratio: f64, bound: f64, decimals: i32) -> bool {
+    ratio < bound - 0.5 / 10f64.powi(decimals)
+}
+
+impl Entry for Timed {
+    fn case(&self) -> &Timed {
+        self
+    }
+
+    fn heads(&self) -> String {
+        let heads = format!("{:>13}{:>12}{:>8}", "original", "port", "ratio");
+        match self.opencv {
+            Some(_) => format!("{heads}{:>12}", "OpenCV"),
+            None => heads,
+        }
+    }
+
+    fn figures(&self) -> String {
+        let [original, port] = self.times.map(nanoseconds);
+        let mark = if self.is_below(self.goal) { "<" } else { " " };
+        let figures = format!("{original:>13}{port:>12}{:>7.2}{mark}", self.ratio());
+        match self.opencv {
+            Some(opencv) => format!("{figures}{:>12}", nanoseconds(opencv)),
+            None => figures,
+        }
+    }
+}
+
+/// Calls by the name that an argument gives, with those of their tables that are not named
+/// for them. Each side meets its input through one pointer that the compiler cannot see
+/// through.
+type Call = (
+    &'static str,
+    fn(&Input) -> Vec<Timed>,
+    &'static [&'static str],
+);
 
 /// Calls timed on every input.
 const CALLS: [Call; 10] = [
-    ("from_rgb", frames::from_rgb),
-    ("shrink2", frames::shrink2),
-    (frames::COMPUTE_BITMAPS, frames::cut_and_bitmaps), // and threshold, in one race
-    ("count_ones", frames::count_ones),
-    ("shifted", moves::shifted),
-    ("pyramid", levels::pyramid),
-    ("disagreement", counts::disagreement),
-    ("shift", search::shift),
-    ("align_stack", search::align_stack),
-    ("report", report::report),
+    ("from_rgb", frames::from_rgb, &[]),
+    ("shrink2", frames::shrink2, &[]),
+    (
+        frames::COMPUTE_BITMAPS,
+        frames::cut_and_bitmaps,
+        &[frames::THRESHOLD, frames::PACKING_ALONE],
+    ),
+    ("count_ones", frames::count_ones, &[]),
+    ("shifted", moves::shifted, &[]),
+    ("pyramid", levels::pyramid, &[]),
+    ("disagreement", counts::disagreement, &[]),
+    ("shift", search::shift, &[]),
+    ("align_stack", search::align_stack, &[]),
+    ("report", report::report, &[]),
 ];
 
 /// Calls whose time has nothing to do with the input.
 const CALLS_ON_ONE: [Call; 2] = [
-    ("pixels", frames::pixels), // get and set
-    ("common_crop", moves::common_crop),
+    ("pixels", frames::pixels, &["get", "set"]),
+    ("common_crop", moves::common_crop, &[]),
 ];
 const ONE: Size = (640, 480);
 
-/// How often all is timed, so that no call meets bad weather alone.
+fn calls() -> impl Iterator<Item = &'static Call> {
+    CALLS.iter().chain(&CALLS_ON_ONE)
+}
+
+/// The call that a table is of: one whose name is the table's or its first word, or that
+/// lists it.
+fn call_of(table: &str) -> Option<&'static str> {
+    let first = table.split(' ').next();
+    let mut calls = calls();
+    let call = calls.find(|(name, _, others)| first == Some(*name) || others.contains(&table));
+    call.map(|(name, ..)| *name)
+}
+
+/// How often all is timed for the tables, so that no call meets bad weather alone. For plain
+/// lines once: they are of many runs, as a process may be slow throughout.
 const PASSES: usize = 4;
 
 fn main() {
-    let named: Vec<String> = std::env::args().skip(1).collect();
-    let known = || CALLS.iter().chain(&CALLS_ON_ONE).map(|(name, _)| *name);
-    if let Some(other) = named.iter().find(|name| known().all(|call| call != *name)) {
-        let known: Vec<&str> = known().collect();
-        eprintln!("no call {other}; there are {}", known.join(", "));
-        std::process::exit(2);
+    let arguments: Vec<String> = std::env::args().skip(1).collect();
+    match arguments.split_first() {
+        Some((option, files)) if option == "--beside" => {
+            print!("{}", both_sides(option, files).said());
+        }
+        Some((option, files)) if option == "--again" => {
+            let again = both_sides(option, files).again();
+            for call in again.unwrap_or_else(|error| fail(&error)) {
+                println!("{call}");
+            }
+        }
+        Some((option, named)) if option == "--known" => refuse_unknown(named),
+        Some((option, named)) if option == "--plain" => {
+            refuse_unknown(named);
+            for timed in least_of(1, named) {
+                println!("{}", beside::plain(&timed));
+            }
+        }
+        _ => {
+            refuse_unknown(&arguments);
+            print_tables(&arguments);
+        }
     }
-    let is_timed = |call: &Call| named.is_empty() || named.iter().any(|name| name == call.0);
+}
 
+fn both_sides(option: &str, files: &[String]) -> Beside {
+    let [before, after] = files else {
+        eprintln!("{option} takes two files of plain lines, of before and of after");
+        exit(2);
+    };
+    let [before, after] = [before, after].map(|file| {
+        fs::read_to_string(file).unwrap_or_else(|error| fail(&format!("{file}: {error}")))
+    });
+    beside::merged(&before, &after).unwrap_or_else(|error| fail(&error))
+}
+
+fn fail(error: &str) -> ! {
+    eprintln!("{error}");
+    exit(1);
+}
+
+fn print_tables(named: &[String]) {
     println!(
         "Nanoseconds of processor time per call, the least of {} rounds in which both sides
 take turns, of fewer where a report takes long.
@@ -105,39 +221,38 @@ rows, in light that changes by row; flat, 128 throughout. RGB has each sample th
         opencv::SAID
     );
 
-    let mut all = pass(is_timed);
-    for _ in 1..PASSES {
-        for (timed, again) in all.iter_mut().zip(pass(is_timed)) {
-            for (time, again) in timed.times.iter_mut().zip(again.times) {
-                *time = time.min(again);
-            }
-            timed.opencv = timed
-                .opencv
-                .zip(again.opencv)
-                .map(|(one, other)| one.min(other));
-        }
-    }
+    let mut all = least_of(PASSES, named);
     all.extend(frames::packing_alone(&all));
-
-    let mut calls: Vec<&str> = Vec::new();
-    for timed in &all {
-        if !calls.contains(&timed.call) {
-            calls.push(timed.call);
-        }
-    }
-    for call in calls {
-        let of_call: Vec<&Timed> = all.iter().filter(|timed| timed.call == call).collect();
-        print_table(call, &of_call);
-    }
+    print!("{}", table::tables(&all));
 
     println!();
     let below = all.iter().filter(|timed| timed.is_below(timed.goal));
     println!("below the goal: {} of {}", below.count(), all.len());
     for timed in all.iter().filter(|timed| timed.is_below(1.0)) {
-        let ((width, height), kind) = (timed.size, timed.kind.name());
-        print!("slower than the original: {} ", timed.call);
-        println!("{width}x{height} {kind}, ratio {:.2}", timed.ratio());
+        let (case, ratio) = (timed.case_name(), timed.ratio());
+        println!("slower than the original: {case}, ratio {ratio:.2}");
     }
+}
+
+fn refuse_unknown(named: &[String]) {
+    let known = || calls().map(|(name, ..)| *name);
+    if let Some(other) = named.iter().find(|name| known().all(|call| call != *name)) {
+        let known: Vec<&str> = known().collect();
+        eprintln!("no call {other}; there are {}", known.join(", "));
+        exit(2);
+    }
+}
+
+/// The calls that are named, or all, in so many passes.
+fn least_of(passes: usize, named: &[String]) -> Vec<Timed> {
+    let is_timed = |call: &Call| named.is_empty() || named.iter().any(|name| name == call.0);
+    let mut all = pass(is_timed);
+    for _ in 1..passes {
+        for (timed, again) in all.iter_mut().zip(pass(is_timed)) {
+            timed.take_least(&again);
+        }
+    }
+    all
 }
 
 /// The calls on their inputs, always in the same order.
@@ -157,53 +272,37 @@ fn pass(is_timed: impl Fn(&Call) -> bool) -> Vec<Timed> {
     all
 }
 
-/// A row for each size, three columns for each kind of input.
-fn print_table(call: &str, of_call: &[&Timed]) {
-    let rows: Vec<&[&Timed]> = of_call
-        .chunk_by(|one, next| one.size == next.size)
-        .collect();
+#[cfg(test)]
+mod tests {
+    use super::*;
 
-    println!();
-    let goals = of_call.iter().map(|timed| timed.goal);
-    let goal = match (
-        goals.clone().fold(f64::INFINITY, f64::min),
-        goals.fold(0.0, f64::max),
-    ) {
-        (least, most) if least == most => format!("{least}"),
-        (least, most) => format!("{least} to {most}"),
-    };
-    print!("{:32}", format!("{call}, goal {goal}"));
-    for timed in rows[0] {
-        let columns = if timed.opencv.is_some() { 45 } else { 33 };
-        print!("{:>columns$}", timed.kind.name());
-    }
-    println!();
-    print!("{:32}", "");
-    for timed in rows[0] {
-        print!("{:>13}{:>12}{:>8}", "original", "port", "ratio");
-        if timed.opencv.is_some() {
-            print!("{:>12}", "OpenCV");
-        }
-    }
-    println!();
-
-    for row in rows {
-        let (width, height) = row[0].size;
-        print!("{:32}", format!("{width}x{height}"));
-        for timed in row {
-            let [original, port] = timed.times.map(nanoseconds);
-            let mark = if timed.is_below(timed.goal) { "<" } else { " " };
-            print!("{original:>13}{port:>12}{:>7.2}{mark}", timed.ratio());
-            if let Some(opencv) = timed.opencv {
-                print!("{:>12}", nanoseconds(opencv));
+    #[test]
+    fn every_table_is_of_the_call_that_times_it() {
+        let small = Input::new(SIZES[0], Kind::Noise);
+        for (name, time, others) in calls() {
+            let mut all = time(&small);
+            assert!(!all.is_empty(), "{name} has no case");
+            all.extend(frames::packing_alone(&all));
+            for timed in &all {
+                assert_eq!(call_of(&timed.call), Some(*name), "{}", timed.call);
+            }
+            for other in *others {
+                assert!(all.iter().any(|timed| timed.call == *other), "{other}");
             }
         }
-        println!();
     }
-}
 
-/// Tenths only where they say something.
-fn nanoseconds(time: f64) -> String {
-    let tenths = if time < 100.0 { 1 } else { 0 };
-    format!("{time:.tenths$}")
+    #[test]
+    fn a_table_of_no_call_is_told_apart() {
+        for table in [
+            "",
+            "shrink",
+            "shifted2",
+            "packing",
+            "threshold alone",
+            "at 0",
+        ] {
+            assert_eq!(call_of(table), None, "{table}");
+        }
+    }
 }
