@@ -192,7 +192,7 @@ pub(crate) fn fill_table(table: &mut [u64; 256], cut: u16, tolerance: u8)
     fill_run(table, far, 256, 4294967297);
 }
 
-// The two bits of up to 32 samples.
+// The two bits of up to 32 samples, from the last one on: what is there is moved up by one bit, and no sample has a shift of its own.
 fn pack_half(
     samples: &[u8],
     from: usize,
@@ -205,10 +205,10 @@ fn pack_half(
     ensures { λ r. ⌜ r ≡ twoOf (now (samples .entry)) cut tolerance from span ⌝ }
 {
     let mut sum: u64 = 0;
-    let mut i: usize = 0;
-    while i < span {
-        sum += table[samples[from + i] as usize] << i;
-        i += 1;
+    let mut i = span;
+    while i > 0 {
+        i -= 1;
+        sum = sum * 2 + table[samples[from + i] as usize];
     }
     sum
 }

@@ -7,6 +7,7 @@ use super::strips::pack;
 ghost use mathlib.Core.Path.{_≡_};
 ghost use Prim.Native.Nat.{ℕ, _+_, _*_, _/_, _≤_, _<_};
 ghost use lib.ListN.{length, getD, set, take, drop};
+ghost use lib.Seq.{sets};
 ghost use Rattle.definitions.specs.Sum.{sum};
 ghost use Rattle.definitions.specs.Build.{build};
 ghost use Rattle.definitions.specs.Threshold.{bins, lastRows, binsAdded, cut};
@@ -18,6 +19,9 @@ ghost use Rattle.mtb_align.specs.Tally.{laneTotal, Tally, More, Room};
 
 // Distinct sample values.
 const LEVELS: usize = 256;
+
+// Values whose lanes are folded at a time.
+const PART: usize = 64;
 
 pub enum CutAnswer {
     Cut(u16),
@@ -86,12 +90,50 @@ fn tally_row(lanes: &mut [u32; 4 * LEVELS], samples: &[u8], width: usize, height
     tally_samples(lanes, &samples[start..end]);
 }
 
+// All rows. The last one is tallied first, as the camera's driver fills a frame from there.
+fn tally_rows(lanes: &mut [u32; 4 * LEVELS], samples: &[u8], width: usize, height: usize)
+    requires { ⌜ (width ≤ 8192) × (height ≤ 8192) × (length (now samples) ≡ width * height) × Tally (now lanes) (lastRows width height (now samples) 0) ⌝ }
+    ensures { λ _. ⌜ Tally (now (lanes .exit)) (lastRows width height (now (samples .entry)) height) ⌝ }
+{
+    for k in 0..height {
+        tally_row(lanes, samples, width, height, k);
+    }
+}
+
 // What the four lanes hold together at the value v.
-fn lane_total(lanes: &[u32; 4 * LEVELS], v: usize) -> u64
+fn lane_total(lanes: &[u32; 4 * LEVELS], v: usize) -> u32
     requires { ⌜ (v < 256) × (laneTotal (now lanes) v ≤ 67108864) ⌝ }
     ensures { λ r. ⌜ r ≡ laneTotal (now (lanes .entry)) v ⌝ }
 {
-    (lanes[v] + lanes[LEVELS + v] + lanes[2 * LEVELS + v] + lanes[3 * LEVELS + v]) as u64
+    lanes[v] + lanes[LEVELS + v] + lanes[2 * LEVELS + v] + lanes[3 * LEVELS + v]
+}
+
+// The totals of the values from v on, as many as are folded at a time, in the lanes' own width: LLVM then adds four at a time, and two
+// where each total is made a bin at once.
+fn part_totals(lanes: &[u32; 4 * LEVELS], v: usize) -> [u32; PART]
+    requires { ⌜ (v + 64 ≤ 256) × ((u : ℕ) → u < 256 → laneTotal (now lanes) u ≤ 67108864) ⌝ }
+    ensures { λ r. ⌜ r ≡ build 64 (λ (i : ℕ). laneTotal (now (lanes .entry)) (v + i)) ⌝ }
+{
+    let mut totals = [0u32; PART];
+    let mut i: usize = 0;
+    while i < PART {
+        totals[i] = lane_total(lanes, v + i);
+        i += 1;
+    }
+    totals
+}
+
+// The bins of these values.
+fn fold_part(bins: &mut [u64; LEVELS], lanes: &[u32; 4 * LEVELS], v: usize)
+    requires { ⌜ (v + 64 ≤ 256) × ((u : ℕ) → u < 256 → laneTotal (now lanes) u ≤ 67108864) ⌝ }
+    ensures { λ _. ⌜ now (bins .exit) ≡ sets (now (bins .entry)) v (build 64 (λ (i : ℕ). laneTotal (now (lanes .entry)) (v + i))) ⌝ }
+{
+    let totals = part_totals(lanes, v);
+    let mut i: usize = 0;
+    while i < PART {
+        bins[v + i] = totals[i] as u64;
+        i += 1;
+    }
 }
 
 // The four lanes as one.
@@ -102,37 +144,56 @@ fn fold_lanes(lanes: &[u32; 4 * LEVELS]) -> [u64; LEVELS]
     let mut bins = [0u64; LEVELS];
     let mut v: usize = 0;
     while v < LEVELS {
-        bins[v] = lane_total(lanes, v);
-        v += 1;
+        fold_part(&mut bins, lanes, v);
+        v += PART;
     }
     bins
 }
 
-// How many samples have each of the 256 values. The last row is tallied first, as the camera's driver fills a frame from there.
+// How many samples have each of the 256 values.
 pub(crate) fn histogram(samples: &[u8], width: usize, height: usize) -> [u64; LEVELS]
     requires { ⌜ (width ≤ 8192) × (height ≤ 8192) × (length (now samples) ≡ width * height) ⌝ }
     ensures { λ r. ⌜ r ≡ bins (now (samples .entry)) ⌝ }
 {
     let mut lanes = [0u32; 4 * LEVELS];
-    for k in 0..height {
-        tally_row(&mut lanes, samples, width, height, k);
-    }
+    tally_rows(&mut lanes, samples, width, height);
     fold_lanes(&lanes)
 }
 
-// The number of bins that are added before their sum reaches the goal.
-pub(crate) fn bins_added(bins: [u64; LEVELS], goal: u64) -> u16
-    requires { ⌜ sum 256 (λ (i : ℕ). getD bins i 0) ≤ 67108864 ⌝ }
-    ensures { λ r. ⌜ r ≡ binsAdded bins goal 0 ⌝ }
+// The number of bins that are added before their sum reaches the goal, where the first `from` of them, which hold `held` samples,
+// are added already.
+fn bins_added_from(bins: &[u64; LEVELS], goal: u64, from: usize, held: u64) -> u16
+    requires { ⌜
+        (length (now bins) ≡ 256) × (from ≤ 256) × (held ≡ sum from (λ (i : ℕ). getD (now bins) i 0)) × (sum 256 (λ (i : ℕ). getD (now bins) i 0) ≤ 67108864)
+        ⌝ }
+    ensures { λ r. ⌜ r ≡ from + binsAdded (drop from (now (bins .entry))) goal held ⌝ }
 {
-    let mut added: u64 = 0;
-    let mut level: usize = 0;
+    let mut added = held;
+    let mut level = from;
     while level < LEVELS {
         if added >= goal {
             return level as u16;
         }
         added += bins[level];
         level += 1;
+    }
+    level as u16
+}
+
+// The same from the first bin on: four at a time while four more do not reach the goal.
+pub(crate) fn bins_added(bins: [u64; LEVELS], goal: u64) -> u16
+    requires { ⌜ sum 256 (λ (i : ℕ). getD bins i 0) ≤ 67108864 ⌝ }
+    ensures { λ r. ⌜ r ≡ binsAdded bins goal 0 ⌝ }
+{
+    let mut added: u64 = 0;
+    let mut level: usize = 0;
+    while level + 4 <= LEVELS {
+        let next = added + bins[level] + bins[level + 1] + bins[level + 2] + bins[level + 3];
+        if next >= goal {
+            return bins_added_from(&bins, goal, level, added);
+        }
+        added = next;
+        level += 4;
     }
     level as u16
 }

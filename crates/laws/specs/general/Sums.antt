@@ -35,6 +35,11 @@ sum-split m (suc n) f =
     ∙ ap (λ (k : ℕ). k + f (m + n)) (sum-split m n f)
     ∙ add-assoc (sum m f) (sum n (λ i. f (m + i))) (f (m + n))
 
+-- four more
+pub sum-four : (n : ℕ) (f : ℕ → ℕ) → sum (n + 4) f ≡ sum n f + f n + f (n + 1) + f (n + 2) + f (n + 3)
+unfolding sum
+sum-four n f = omega (arith, sum-split n 4 f, ap f (add-zero n))
+
 -- the first, and the rest
 pub sum-first : (n : ℕ) (f : ℕ → ℕ) → sum (suc n) f ≡ f 0 + sum n (λ i. f (suc i))
 unfolding sum

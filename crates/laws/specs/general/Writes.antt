@@ -5,9 +5,9 @@ use Prim.Native.Nat.{ℕ, suc, _+_, _*_, _<_, _≤_}
 use native.Mathlib.Nat.{add-zero, zero-add, add-suc, suc-add}
 use native.Mathlib.Omega.{arith}
 use lib.ListN.{length, getD, set, take, drop, length-set, drop-of-length-le}
-use lib.Seq.{sets, sets-eq, set-out, set-comm, getD-set-other, drop-set-lt, take-at}
+use lib.Seq.{sets, sets-eq, length-sets, set-out, set-comm, getD-set-other, drop-set-lt, take-at}
 use Rattle.definitions.specs.Build.{build, joined}
-use Rattle.laws.specs.general.Lists.{build-none, build-more, build-length, joined-none, joined-more, joined-length}
+use Rattle.laws.specs.general.Lists.{build-none, build-more, build-add, build-length, joined-none, joined-more, joined-length}
 
 module _ {A : Type 0} where
   pub sets-append : (l : List A) (i : ℕ) (vs ws : List A) → sets l i (vs ++ ws) ≡ sets (sets l i vs) (i + length vs) ws
@@ -65,6 +65,18 @@ module _ {A : Type 0} where
     long = length-set new k v ∙ q .long;
     are = ap (λ (j : ℕ). set new j v) (sym (zero-add k)) ∙ store-more old 0 k f (q .are) e;
   }
+
+  -- and n more in one run
+  pub stored-run : {f : ℕ → A} {old new more : List A} {k : ℕ} (n : ℕ) → Stored f 0 old new k → more ≡ sets new k (build n (λ (j : ℕ). f (k + j))) → Stored f 0 old more (k + n)
+  stored-run {f} {old} {new} {more} {k} n q e =
+      let run = build n (λ (j : ℕ). f (k + j)) in record {
+        long = ap (length {A = A}) e ∙ length-sets new k run ∙ q .long;
+        are =
+            e
+            ∙ ap (λ (l : List A). sets l k run) (q .are)
+            ∙ ap (λ (i : ℕ). sets (sets old 0 (build k f)) i run) (sym (zero-add (length (build k f)) ∙ build-length k f))
+            ∙ sym (ap (sets old 0) (build-add k n f) ∙ sets-append old 0 (build k f) run);
+      }
 
   pub stored-all : {f : ℕ → A} {i : ℕ} {old new : List A} {k n : ℕ} → Stored f i old new k → k ≡ n → new ≡ sets old i (build n f)
   stored-all {f} {i} {old} q e = q .are ∙ ap (λ (m : ℕ). sets old i (build m f)) e

@@ -4,15 +4,17 @@ use mathlib.Core.Bool.{Bool, true, false}
 use mathlib.Core.List.{List, [], _∷_}
 use mathlib.Core.Logic.{⊎-elim}
 use Prim.Native.Nat.{ℕ, zero, suc, _+_, _≤_, _<_, zero-le}
-use native.Mathlib.Nat.{mul-le-mul-left}
+use native.Mathlib.Nat.{zero-add, mul-le-mul-left}
+use native.Mathlib.Numerals.{add-one}
 use native.Mathlib.Omega.{arith}
 use borrow.Author.Tests.{lt-ltb, le-ltb, ltb-true, ltb-false, eqb-true, eqb-false}
 use lib.Dec.{ltb, eqb}
-use lib.ListN.{length, getD}
+use lib.ListN.{length, getD, drop, drop-of-length-le}
+use lib.Seq.{drop-cons}
 use Rattle.definitions.specs.Sum.{bit, sum, countIf}
 use Rattle.definitions.specs.Threshold.{binOf, bins, target, binsAdded, cut}
 use Rattle.laws.specs.general.Cases.{lt-or-le}
-use Rattle.laws.specs.general.Sums.{sum-none, sum-ext, sum-first}
+use Rattle.laws.specs.general.Sums.{sum-none, sum-more, sum-ext, sum-first}
 use Rattle.laws.specs.general.Lists.{build-length, build-at}
 
 -- all samples are bytes
@@ -82,6 +84,9 @@ pub cut-end : (goal added : ℕ) → binsAdded [] goal added ≡ 0
 unfolding binsAdded
 cut-end goal added = refl
 
+pub cut-done : (l : List ℕ) (goal added k : ℕ) → length l ≤ k → binsAdded (drop k l) goal added ≡ 0
+cut-done l goal added k h = ap (λ (r : List ℕ). binsAdded r goal added) (drop-of-length-le l {i = k} h) ∙ cut-end goal added
+
 -- the goal is reached
 pub cut-stop : (l : List ℕ) (goal added : ℕ) → goal ≤ added → binsAdded l goal added ≡ 0
 unfolding binsAdded
@@ -92,6 +97,15 @@ cut-stop (b ∷ l) goal added h = rw (le-ltb added goal h, binsAdded)
 pub cut-turn : (b : ℕ) (l : List ℕ) (goal added : ℕ) → added < goal → binsAdded (b ∷ l) goal added ≡ suc (binsAdded l goal (added + b))
 unfolding binsAdded
 cut-turn b l goal added h = rw (lt-ltb added goal h, binsAdded)
+
+-- while the first k bins do not reach the goal, the walk goes on behind them
+pub cut-past : (l : List ℕ) (goal k : ℕ) → k ≤ length l → sum k (λ i. getD l i 0) < goal → k + binsAdded (drop k l) goal (sum k (λ i. getD l i 0)) ≡ binsAdded l goal 0
+cut-past l goal zero h m = rw (sum-none (λ i. getD l i 0)) (zero-add _)
+cut-past l goal (suc k) h m =
+    let f : ℕ → ℕ = λ (i : ℕ). getD l i 0 in
+    let more : sum (suc k) f ≡ sum k f + getD l k 0 = ap (λ (n : ℕ). sum n f) (sym (add-one k)) ∙ sum-more k f in
+    let turn = ap (λ (r : List ℕ). binsAdded r goal (sum k f)) (drop-cons l k 0 h) ∙ cut-turn (getD l k 0) (drop (suc k) l) goal (sum k f) (omega arith) in
+    omega (arith, turn, ap (binsAdded (drop (suc k) l) goal) more, cut-past l goal k (omega arith) (omega arith))
 
 -- the sum of the first k bins
 abbrev first : List ℕ → ℕ → ℕ

@@ -16,10 +16,6 @@ add-result-6 : tie.Need-add-result-6
 unfolding laneTotal
 add-result-6 c = omega arith
 
-cast-result : tie.Need-cast-result
-unfolding laneTotal
-cast-result c = omega arith
-
 returns : tie.Need-returns
 unfolding laneTotal
 returns c = search needs
@@ -44,5 +40,4 @@ lane-total-spec =
     (λ c. search needs)
     (λ c. search needs)
     add-result-6
-    cast-result
     returns)
