@@ -109,22 +109,27 @@ if [ ${#processors[@]} -ge 2 ]; then
 fi
 cat <<HEAD
 Two commits in one run, the other checkout before and this one after: nanoseconds of processor
-time per call of the port, the least of $((2 * rounds * ${#places[@]})) runs of the timing program on each side.
+time per call of the port, within which a quarter of $((2 * rounds * ${#places[@]})) runs of the timing program on each side stay.
 A call with a case below 0.98, or with a goal met before and missed now, is timed again by as many
-runs on both sides, at most $repeats times: more runs only lower a least time, so that a loss by chance
-mostly goes and a true one stays. A gain is not asked about. The last lines name the calls.
+runs on both sides, at most $repeats times, and all its runs count: a loss by chance mostly goes, and a
+true one stays. A gain is not asked about. The last lines name the calls.
 Both sides run $how:
 they meet the same weather. $((2 * rounds)) runs each have the code 0, 16, 32 and 48 bytes after a multiple of
 64, as its place alone moves calls on small frames by 2 to 5 %.
 The ratio is before to after: 1.03 is 3 % faster now; \`<\` marks one below 0.98. A goal is for
-original to port, with the original's least time of all runs of both sides.
+original to port, with the original's lesser time of both sides.
 HEAD
+
+# All buffers in huge pages, where Linux and its C library have them: else a large frame's pages lie
+# elsewhere in memory in each process, which moves calls on 1,920 by 1,080 by 3 to 5 %.
+huge_pages=glibc.malloc.hugetlb=1:glibc.malloc.mmap_threshold=1073741824
+huge_pages+=:glibc.malloc.trim_threshold=4294967296:glibc.malloc.top_pad=134217728
 
 # Both sides' programs of a place on some calls, the first side's on the first processor.
 turn() {
   local place=$1 sides=("${@:2:2}") at job run jobs=()
   for at in 0 1; do
-    run=("$timing/${sides[at]}.$place" --plain "${@:4}")
+    run=(env "GLIBC_TUNABLES=$huge_pages" "$timing/${sides[at]}.$place" --plain "${@:4}")
     if [ ${#processors[@]} -ge 2 ]; then
       taskset -c "${processors[at]}" "${run[@]}" >>"$timing/${sides[at]}" &
       jobs+=($!)

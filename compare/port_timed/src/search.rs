@@ -1,5 +1,5 @@
 //! The step of two frames and the stack, with the original's usual options. Every
-//! frame is the one before it, moved.
+//! frame is the one before it, moved; steps are also timed on a frame and itself.
 
 use std::hint::black_box;
 
@@ -48,8 +48,15 @@ fn beside(
 }
 
 pub fn shift(input: &Input) -> Vec<Timed> {
+    let equal = vec![gray(input); 2];
+    vec![
+        step("shift", input, &bracket(input, 2)),
+        step("shift of equal frames", input, &equal),
+    ]
+}
+
+fn step(call: &'static str, input: &Input, frames: &[Gray]) -> Timed {
     let (width, height) = input.size;
-    let frames = bracket(input, 2);
     let [reference, target] =
         [0, 1].map(|frame: usize| Frame::new(frames[frame].as_slice(), width, height));
     let (mut bytes, mut words) = scratch(input.size);
@@ -82,7 +89,7 @@ pub fn shift(input: &Input) -> Vec<Timed> {
             ));
         },
     ];
-    vec![beside("shift", input, racers, &mut opencv)]
+    beside(call, input, racers, &mut opencv)
 }
 
 pub fn align_stack(input: &Input) -> Vec<Timed> {
