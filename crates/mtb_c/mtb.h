@@ -1,5 +1,5 @@
 /*
- * mtb.h: image registration by median threshold bitmaps, every call proved. Version 2.0.0.
+ * mtb.h: image registration by median threshold bitmaps, every call proved. Version 3.0.0.
  *
  * Link libmtb_c.a, which `rt staticlib mtb_c` writes to target/staticlib (x86-64). docs/CALLS.md has each call in full.
  *
@@ -33,7 +33,7 @@
 extern "C" {
 #endif
 
-#define MTB_VERSION "2.0.0"
+#define MTB_VERSION "3.0.0"
 
 /* Limits. */
 #define MTB_MOST_SIDE 8192
@@ -161,6 +161,8 @@ uint32_t mtb_disagreement(const uint64_t *reference_threshold, size_t reference_
                           size_t values[5]);
 
 /* The step of two frames: how far the target has to move to sit on the reference. bytes and words are the scratch that mtb_scratch gives.
+   comparisons is the number of shifts that were tried: at each level from L to 0 those up to and including the first that disagrees in no
+   pixel, or nine; L + 1 to 9 * (L + 1) in all.
    Refused: 1 for either size; 3; 4; 2 for reference, target; 7. Writes x, y, comparisons, and the scratch. Refused by 4, writes values:
    width and height of the reference, then of the target. */
 uint32_t mtb_shift(const uint8_t *reference, size_t reference_length, size_t width, size_t height,

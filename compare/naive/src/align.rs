@@ -161,7 +161,8 @@ pub fn scratch(width: usize, height: usize, bits: u32) -> Result<Scratch, Refusa
     Ok(Scratch::of_step(width, height, bits))
 }
 
-/// A step: how far the target moves, and the number of comparisons made.
+/// A step: how far the target moves, and the number of comparisons made. A level is left at
+/// the first candidate that disagrees in no pixel.
 #[derive(Clone, Copy, Debug, PartialEq, Eq)]
 pub struct Step {
     pub shift: Shift,
@@ -223,13 +224,15 @@ fn step_at(level: usize, reference: &[BitFrame], target: &[BitFrame]) -> Step {
         step_at(level + 1, reference, target)
     };
     let around = Shift::new(2 * coarser.shift.x, 2 * coarser.shift.y);
-    let best = candidates(around)
-        .into_iter()
-        .min_by_key(|&shift| counts(&reference[level], &target[level], shift).disagreeing)
-        .expect("there are nine"); // of equal ones, the first
+    let nine = candidates(around);
+    let disagreeing = |&shift: &Shift| counts(&reference[level], &target[level], shift).disagreeing;
+    let costs: Vec<u64> = nine.iter().map(disagreeing).collect();
+    let best = (0..9).min_by_key(|&at| costs[at]); // of equal ones, the first
+    let clean = costs.iter().position(|&cost| cost == 0);
+    let tried = clean.map_or(9, |at| at as u64 + 1);
     Step {
-        shift: best,
-        comparisons: coarser.comparisons + 9,
+        shift: nine[best.expect("there are nine")],
+        comparisons: coarser.comparisons + tried,
     }
 }
 

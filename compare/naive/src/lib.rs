@@ -1,6 +1,6 @@
-//! Document 01, the scope, read pixel by pixel: plain and slow, so that each line
-//! can be held against a sentence there. Nothing is taken from the original's code
-//! but the names and the order of its nine candidates.
+//! Documents 01, the scope, and 02, the changes to it, read pixel by pixel: plain and
+//! slow, so that each line can be held against a sentence there. Nothing is taken from
+//! the original's code but the names and the order of its nine candidates.
 //!
 //! Buffers are not written here. A call takes the lengths of the buffers that its
 //! caller lends (`room`, [`align::Scratch`]) and hands back what it would write, so

@@ -38,8 +38,8 @@ fn d_cut_11_words_12_and_13() {
     assert_eq!(compute_bitmaps(frame, 50, 4, [1, 1]), Ok(words));
 }
 
-/// Levels are no call of their own: they show in the comparisons of a step (nine a
-/// level) and in the length of a pyramid.
+/// Levels are no call of their own: they show in the comparisons of a step (one a level
+/// on equal frames) and in the length of a pyramid.
 #[test]
 fn e_levels() {
     for (side, bits, levels, samples) in [
@@ -52,7 +52,7 @@ fn e_levels() {
         let options = Options { bits, ..OPTIONS };
         let scratch = Scratch::of_step(side, side, bits);
         let step = shift(frame, frame, &options, scratch).unwrap();
-        assert_eq!(step.comparisons, 9 * (levels + 1));
+        assert_eq!(step.comparisons, levels + 1);
         assert_eq!(halved_samples(side, side, bits), samples);
         assert_eq!(
             pyramid(frame, bits, Shrink::Average, samples),

@@ -9,7 +9,7 @@ use std::process::ExitCode;
 
 use trials::{Call, Outcome, call};
 
-const CALLS: [Call; 20] = [
+const CALLS: [Call; 21] = [
     call("from_rgb", 2000, calls::from_rgb),
     call("shrink2", 3000, calls::shrink2),
     call("shifted", 4000, calls::shifted),
@@ -30,6 +30,7 @@ const CALLS: [Call; 20] = [
     call("align_stack", 1500, stacks::align_stack),
     call("report", 1200, stacks::report),
     call("stacksteps", 120, stacks::stacksteps),
+    call("shift stops", stacks::STOPS, stacks::stops),
 ];
 
 fn main() -> ExitCode {

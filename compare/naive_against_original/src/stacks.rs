@@ -1,6 +1,6 @@
 //! The calls on pyramids, on two frames and on stacks.
 
-use naive::align::{self, Scratch, halved_samples};
+use naive::align::{self, Options, Scratch, halved_samples};
 use naive::geometry::Crop;
 use naive::gray::Frame;
 use naive::refusals::{RECORD_SPACE_TOO_SHORT, Refusal, SIZES_DIFFER};
@@ -9,7 +9,7 @@ use naive::stacksteps::{self as program, OPTIONS, RIVALRY};
 use trials::Outcome;
 use trials::frames::Frames;
 use trials::inputs::{Random, options, percentile_over, shrink, size};
-use trials::{original, recount, scenes};
+use trials::{matches, original, recount, scenes};
 
 use crate::calls::samples;
 use crate::same;
@@ -84,19 +84,33 @@ pub fn shift(random: &mut Random, _: usize) -> Outcome {
     let reference = Frame::new(&frames[0], width, height);
     let target = Frame::new(&frames[1], target_size.0, target_size.1);
 
-    let input = format!("{width} by {height} and {target_size:?}, {options:?}");
-    let scratch = Scratch::of_step(width, height, options.bits);
-    let step = align::shift(reference, target, &options, scratch);
+    step_agrees(reference, target, &options)
+}
+
+fn step_agrees(reference: Frame, target: Frame, options: &Options) -> Outcome {
+    let size = |frame: Frame| (frame.width, frame.height);
+    let input = format!("{:?} and {:?}, {options:?}", size(reference), size(target));
+    let scratch = Scratch::of_step(reference.width, reference.height, options.bits);
+    let step = align::shift(reference, target, options, scratch);
     same(
         &input,
         &step.clone().map(|step| step.shift),
-        &original::shift(reference, target, &options),
+        &original::shift(reference, target, options),
     )?;
     let Ok(step) = step else {
         return Ok(());
     };
-    let comparisons = recount::comparisons(width, height, options.bits);
+    let comparisons = recount::comparisons(reference, target, options);
     same(&input, &step.comparisons, &comparisons)
+}
+
+/// At each of three levels every number of candidates tried.
+pub const STOPS: usize = 9 * 3 * 40;
+
+pub fn stops(random: &mut Random, case: usize) -> Outcome {
+    let pair = matches::trying(random, (case % 9) as u64 + 1, case / 9 % 3);
+    let [reference, target] = pair.frames();
+    step_agrees(reference, target, &pair.options)
 }
 
 fn bracket(random: &mut Random, size: (usize, usize), count: usize, reference: usize) -> Frames {

@@ -21,7 +21,7 @@ use std::process::ExitCode;
 use naive::Refusal;
 use trials::{Call, Outcome, call, same};
 
-const CALLS: [Call; 21] = [
+const CALLS: [Call; 22] = [
     call("from_rgb", 3000, frames::from_rgb),
     call("shrink2 average", 3000, frames::shrink2_average),
     call("shrink2 subsample", 3000, frames::shrink2_subsample),
@@ -43,6 +43,7 @@ const CALLS: [Call; 21] = [
     call("align_stack", 4000, search::align_stack),
     call("report", 4000, report::report),
     call("threshold tally", frames::TALLIES, frames::tally),
+    call("shift stops", search::STOPS, search::stops),
 ];
 
 fn main() -> ExitCode {

@@ -1,13 +1,14 @@
 //! The step of two frames and the stack.
 
 use naive::Refusal;
-use naive::align::{self, Scratch, Step};
+use naive::align::{self, Options, Scratch, Step};
 use naive::geometry::Shift;
 use naive::gray::Frame;
 use port::search as port;
 use trials::Outcome;
 use trials::frames::Frames;
 use trials::inputs::{Random, SIDES_OVER, TOO_LONG, options, percentile_over, size};
+use trials::matches::{self, Pair};
 use trials::{original, recount, scenes};
 
 use crate::agreed;
@@ -44,10 +45,10 @@ pub fn told<T>(values: &Lent<usize>, naive: &Result<T, Refusal>, input: &str) ->
 }
 
 pub fn shift(random: &mut Random, _: usize) -> Outcome {
-    let (mut width, height) = size(random, 100);
+    let (width, height) = size(random, 100);
     let mut frames = scenes::bracket(random, width, height, 2);
     let mut options = options(random);
-    let (mut target_width, mut target_height) = (width, height);
+    let mut sizes = [(width, height); 2];
     let need = Scratch::of_step(width, height, options.bits);
     let mut scratch = enough(random, need);
     match random.below(24) {
@@ -58,16 +59,68 @@ pub fn shift(random: &mut Random, _: usize) -> Outcome {
             frames[frame].resize(length, 77);
         }
         3 => {
-            (target_width, target_height) = size(random, 100);
-            frames[1] = scenes::frame(random, target_width, target_height);
+            sizes[1] = size(random, 100);
+            frames[1] = scenes::frame(random, sizes[1].0, sizes[1].1);
         }
-        4 => width = random.pick(&SIDES_OVER),
-        5 => target_height = random.pick(&SIDES_OVER),
+        4 => sizes[0].0 = random.pick(&SIDES_OVER),
+        5 => sizes[1].1 = random.pick(&SIDES_OVER),
         6 => scratch.bytes = need.bytes.saturating_sub(1),
         7 => scratch.words = need.words.saturating_sub(1),
         _ => {}
     }
-    let frames = [0, 1].map(|frame| Lent::holding(random, &frames[frame]));
+    step(
+        random,
+        [&frames[0], &frames[1]],
+        sizes,
+        &options,
+        (scratch, need),
+    )?;
+    Ok(())
+}
+
+/// At each of three levels every number of candidates tried, for pairs of both kinds.
+pub const STOPS: usize = 9 * 3 * 2 * 20;
+
+/// Pairs made or found for the number of candidates that their step tries at a level.
+pub fn stops(random: &mut Random, case: usize) -> Outcome {
+    let (at, level) = (case % 9, case / 9 % 3);
+    let (pair, meant) = match case / 27 % 2 {
+        0 => (matches::trying(random, at as u64 + 1, level), None),
+        _ => {
+            let [width, height] = [(); 2].map(|()| 40 + random.below(32));
+            let (pair, (x, y)) = matches::moved(random, (width, height), level, at);
+            let step = Step {
+                shift: Shift::new(x, y),
+                comparisons: (at + 1 + level) as u64,
+            };
+            (pair, Some(step))
+        }
+    };
+    let Pair {
+        samples,
+        size,
+        options,
+    } = &pair;
+    let need = Scratch::of_step(size.0, size.1, options.bits);
+    let scratch = enough(random, need);
+    let frames = samples.each_ref().map(|frame| &frame[..]);
+    let found = step(random, frames, [*size; 2], options, (scratch, need))?;
+    let Some(meant) = meant else {
+        return Ok(());
+    };
+    let input = format!("{size:?}, candidate {at} of level {level}, {options:?}");
+    trials::same(&input, ("port", &found), ("meant", &meant))
+}
+
+/// The step of two frames of these sizes, in a scratch of which so much is needed.
+fn step(
+    random: &mut Random,
+    frames: [&[u8]; 2],
+    [(width, height), (target_width, target_height)]: [(usize, usize); 2],
+    options: &Options,
+    (scratch, need): (Scratch, Scratch),
+) -> Result<Step, String> {
+    let frames = frames.map(|frame| Lent::holding(random, frame));
     let (mut bytes, mut words) = lent(random, scratch);
     let [mut x, mut y] = [(); 2].map(|()| Lent::room(random, 1));
     let mut comparisons = Lent::room(random, 1);
@@ -81,7 +134,7 @@ pub fn shift(random: &mut Random, _: usize) -> Outcome {
     let status = port::shift(
         reference,
         target,
-        &options,
+        options,
         (bytes.list_mut(), words.list_mut()),
         (x.one_mut(), y.one_mut()),
         comparisons.one_mut(),
@@ -93,23 +146,20 @@ pub fn shift(random: &mut Random, _: usize) -> Outcome {
     bytes.used_up_to(need.bytes, &input, status)?;
     words.used_up_to(need.words, &input, status)?;
     let (x, y) = (x.after(&input, status)?, y.after(&input, status)?);
-    let naive = align::shift(reference, target, &options, scratch);
+    let naive = align::shift(reference, target, options, scratch);
     told(&values, &naive, &input)?;
     let written = Step {
         shift: Shift::new(x[0], y[0]),
         comparisons: comparisons.after(&input, status)?[0],
     };
-    agreed(
-        &input,
-        (status, written),
-        naive,
-        Some(|| {
-            Ok(Step {
-                shift: original::shift(reference, target, &options)?,
-                comparisons: recount::comparisons(width, height, options.bits),
-            })
-        }),
-    )
+    let original = || {
+        Ok(Step {
+            shift: original::shift(reference, target, options)?,
+            comparisons: recount::comparisons(reference, target, options),
+        })
+    };
+    agreed(&input, (status, written), naive, Some(original))?;
+    Ok(written)
 }
 
 pub fn align_stack(random: &mut Random, _: usize) -> Outcome {

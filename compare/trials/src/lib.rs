@@ -5,6 +5,7 @@
 pub mod clock;
 pub mod frames;
 pub mod inputs;
+pub mod matches;
 pub mod original;
 pub mod recount;
 mod run;

@@ -8,6 +8,7 @@ use naive::gray::Frame;
 use naive::report::{Record, Report, Rivalry};
 use naive::shrink::Shrink;
 
+use crate::matches::NINE;
 use crate::original;
 
 /// The pixels compared at a shift, by a disagreement that every compared pixel
@@ -34,9 +35,44 @@ pub fn levels(width: usize, height: usize, bits: u32) -> usize {
         .count()
 }
 
-/// The shifts that a step tries: nine at each level.
-pub fn comparisons(width: usize, height: usize, bits: u32) -> u64 {
-    9 * (levels(width, height, bits) as u64 + 1)
+/// How many shifts the step of a sound pair tries at each level, full size first: up to and
+/// including the first that disagrees in no pixel, or nine. The original halves, packs and
+/// counts.
+pub fn tried(reference: Frame, target: Frame, options: &Options) -> Vec<u64> {
+    let bitmaps = |frame: Frame| -> Vec<Bitmaps> {
+        let mut levels = vec![frame.samples.to_vec()];
+        levels.extend(halved_levels(frame, options.bits, options.shrink));
+        let packed = |(level, samples)| {
+            let gray = Gray::from_vec(samples, frame.width >> level, frame.height >> level);
+            let percentile = Percentile::new(options.percentile);
+            compute_bitmaps(&gray, percentile, options.tolerance)
+        };
+        levels.into_iter().enumerate().map(packed).collect()
+    };
+    let (reference, target) = (bitmaps(reference), bitmaps(target));
+
+    let (mut x, mut y) = (0, 0);
+    let mut tried = Vec::new();
+    for (here, there) in reference.iter().zip(&target).rev() {
+        (x, y) = (2 * x, 2 * y);
+        let (mut made, mut least, mut best) = (0, u64::MAX, (x, y));
+        for (right, down) in NINE {
+            made += u64::from(least > 0);
+            let at = (x + right, y + down);
+            let cost = disagreement(here, there, Shift::new(at.0, at.1));
+            if cost < least {
+                (least, best) = (cost, at);
+            }
+        }
+        (x, y) = best;
+        tried.insert(0, made);
+    }
+    tried
+}
+
+/// At all levels together.
+pub fn comparisons(reference: Frame, target: Frame, options: &Options) -> u64 {
+    tried(reference, target, options).iter().sum()
 }
 
 /// The halved levels of a frame, one halving after another.

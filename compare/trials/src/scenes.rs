@@ -132,6 +132,22 @@ pub fn bracket(random: &mut Random, width: usize, height: usize, count: usize) -
         .collect()
 }
 
+/// Noise, and the same noise that sits on it once it is moved by (x, y).
+pub fn noise_moved(
+    random: &mut Random,
+    (width, height): (usize, usize),
+    (x, y): (i32, i32),
+) -> [Vec<u8>; 2] {
+    let scene = Scene::Noise {
+        seed: random.word(),
+    };
+    [(0, 0), (i64::from(x), i64::from(y))].map(|(left, top)| {
+        (0..width * height)
+            .map(|at| scene.light((at % width) as i64 + left, (at / width) as i64 + top) as u8)
+            .collect()
+    })
+}
+
 /// Even rows of pins without noise.
 pub fn pin_rows(width: usize, height: usize) -> Vec<u8> {
     let scene = Scene::Pins {

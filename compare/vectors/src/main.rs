@@ -6,6 +6,7 @@ mod bitmaps;
 mod cases;
 mod images;
 mod line;
+mod matches;
 mod neighbours;
 mod programs;
 mod reports;

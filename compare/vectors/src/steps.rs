@@ -7,10 +7,12 @@ use naive::refusals::{
 };
 use naive::stacksteps::OPTIONS;
 use trials::inputs::{Random, TOO_LONG, options};
+use trials::matches::Pair;
 use trials::{original, recount};
 
 use crate::cases::{Break, Case, Size, accepted, agreed, frames, refused, sizes_and_longest};
 use crate::line::{Answered, Line};
+use crate::matches;
 
 /// A size with a halved level, so that both kinds of scratch are needed.
 pub const SOUND: Size = (6, 4);
@@ -49,15 +51,20 @@ struct Two {
 }
 
 impl Two {
-    fn any(random: &mut Random, size: Size, options: Options) -> Self {
-        let frames = frames(random, size, 2);
+    fn of(random: &mut Random, samples: [Vec<u8>; 2], size: Size, options: Options) -> Self {
         let needed = Scratch::of_step(size.0, size.1, options.bits);
         Self {
-            samples: frames.try_into().expect("two frames"),
+            samples,
             sizes: [size; 2],
             options,
             scratch: ample(random, needed),
         }
+    }
+
+    fn any(random: &mut Random, size: Size, options: Options) -> Self {
+        let frames = frames(random, size, 2);
+        let two = frames.try_into().expect("two frames");
+        Self::of(random, two, size, options)
     }
 
     fn frame(&self, number: usize) -> Frame<'_> {
@@ -76,10 +83,9 @@ impl Case for Two {
         let (reference, target) = (self.frame(0), self.frame(1));
         let naive = align::shift(reference, target, &self.options, self.scratch);
         let original = || {
-            let (width, height) = self.sizes[0];
             Ok(Step {
                 shift: original::shift(reference, target, &self.options)?,
-                comparisons: recount::comparisons(width, height, self.options.bits),
+                comparisons: recount::comparisons(reference, target, &self.options),
             })
         };
         Line::new()
@@ -130,10 +136,22 @@ pub fn shift(random: &mut Random) -> Vec<String> {
     sound.scratch = sound.needed();
     cases.push(Two::any(random, (17, 33), MANY_BITS));
     let edges = EDGES.map(|options| Two::any(random, (9, 6), options));
+    let counted = matches::all(random).into_iter().map(|counted| {
+        let Pair {
+            samples,
+            size,
+            options,
+        } = counted.pair;
+        let two = Two::of(random, samples, size, options);
+        let step = align::shift(two.frame(0), two.frame(1), &two.options, two.scratch);
+        assert_eq!(step.map(|step| step.comparisons), Ok(counted.comparisons));
+        two
+    });
     [
         accepted(cases),
         refused(&sound, &STEP_BREAKS),
         accepted(edges),
+        accepted(counted),
     ]
     .concat()
 }

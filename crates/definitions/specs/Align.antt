@@ -43,9 +43,9 @@ candidates =
     ∷ shift (pos 0) (negsuc 0) ∷ shift (pos 0) (pos 1)
     ∷ shift (pos 1) (negsuc 0) ∷ shift (pos 1) (pos 0) ∷ shift (pos 1) (pos 1) ∷ []
 
--- The shifts that a level tries around a centre, in order, where each disagrees in cost shift pixels.
-unfoldable pub tried : (Shift → ℕ) → Shift → List Shift
-tried cost centre = map (offset centre) candidates
+-- The nine shifts around a centre, in their order.
+unfoldable pub nine : Shift → List Shift
+nine centre = map (offset centre) candidates
 
 -- The best so far, or a later one of the list that disagrees in fewer pixels than all before it.
 unfoldable pub leastFrom : (Shift → ℕ) → Shift → List Shift → Shift
@@ -57,16 +57,25 @@ unfoldable pub earliestLeast : (Shift → ℕ) → List Shift → Shift
 earliestLeast cost [] = origin
 earliestLeast cost (s ∷ l) = leastFrom cost s l
 
--- The best of the shifts tried around a centre.
+-- The best of all nine around a centre, where each disagrees in cost shift pixels: the Rust's refine.
 unfoldable pub refine : (Shift → ℕ) → Shift → Shift
-refine cost centre = earliestLeast cost (tried cost centre)
+refine cost centre = earliestLeast cost (nine centre)
+
+-- A list up to and including its first shift that disagrees in no pixel, or all of it.
+unfoldable pub upToZero : (Shift → ℕ) → List Shift → List Shift
+upToZero cost [] = []
+upToZero cost (s ∷ l) = s ∷ cond (eqb (cost s) 0) [] (upToZero cost l)
+
+-- Those of the nine that a level tries: up to and including the first clean match, which disagrees in no pixel and which none after it beats.
+unfoldable pub tried : (Shift → ℕ) → Shift → List Shift
+tried cost centre = upToZero cost (nine centre)
 
 -- A step, and the number of comparisons that it takes.
 pub record Stepped : Type 0 where
   pub shift : Shift
   pub comparisons : ℕ
 
--- Both at one level, where as many are made as shifts are tried.
+-- Both at one level: the best of all nine, and as many comparisons as shifts are tried.
 unfoldable pub refined : (Shift → ℕ) → Shift → Stepped
 refined cost centre = record { shift = refine cost centre; comparisons = length (tried cost centre) }
 

@@ -12,7 +12,7 @@ use Rattle.definitions.specs.Shrink.{average, subsample, mean, halvedSam
 use Rattle.definitions.specs.Threshold.{bins, lastRows, target, binsAdded, cut, thresholdBit, exclusionBit}
 use Rattle.definitions.specs.Bitmap.{wordsPerRow, bitOf, bitAt}
 use Rattle.definitions.specs.Difference.{Bitmaps, bitmapsOf, bitmapsIn, comparedBit, disagreeingBit, overlap, counts}
-use Rattle.definitions.specs.Align.{Options, Stack, shift, logUpTo, log2, levels, tried, leastFrom, earliestLeast, refine}
+use Rattle.definitions.specs.Align.{Options, Stack, shift, logUpTo, log2, levels, nine, leastFrom, earliestLeast, refine, upToZero, tried, refined, comparisonsAt, comparisons, stepped}
 use Rattle.definitions.specs.Align.{bitmapsAt, countsAt, stepAt, step, stackOf, exposure, neighbour, walk, stepOf}
 use Rattle.definitions.specs.Report.{window, distance, isNeighbourShift, comesClose, isRival, survey, Terms, frameCounts, limitOf, rivals}
 use Rattle.definitions.specs.Report.{Record, bytes32, twosComplement, recordBytes, fieldOf, signedOf, recordAt, verdict}
@@ -32,10 +32,11 @@ mask-after-xor : counts 1 1 (pixel 1 1) (pixel 0 0) origin ≡ record { disagree
 unfolding sum indexOf source atSources comparedBit disagreeingBit overlap counts
 mask-after-xor = refl
 
--- All nine alike: the centre wins.
-tie-to-the-centre : refine (λ (s : Shift). 3) (shift (pos 5) (negsuc 6)) ≡ shift (pos 5) (negsuc 6)
-unfolding tried leastFrom earliestLeast refine
-tie-to-the-centre = refl
+-- All nine alike: the centre wins, and is the only one tried if it disagrees in no pixel.
+tie-to-the-centre : (refined (λ (s : Shift). 3) (shift (pos 5) (negsuc 6)) ≡ record { shift = shift (pos 5) (negsuc 6); comparisons = 9 })
+    × (refined (λ (s : Shift). 0) (shift (pos 5) (negsuc 6)) ≡ record { shift = shift (pos 5) (negsuc 6); comparisons = 1 })
+unfolding nine leastFrom earliestLeast refine upToZero tried refined
+tie-to-the-centre = (refl, refl)
 
 -- The last two of three rows of two.
 last-two-rows : lastRows 2 3 (10 ∷ 11 ∷ 20 ∷ 21 ∷ 30 ∷ 31 ∷ []) 2 ≡ 20 ∷ 21 ∷ 30 ∷ 31 ∷ []
@@ -47,14 +48,15 @@ usual = record { bits = 6; tolerance = 4; shrink = average }
 
 -- The step of two empty frames, where Ward's is (-1, -1).
 empty-frames : step usual 0 0 (record { samples = []; percentile = 50 }) (record { samples = []; percentile = 50 }) ≡ origin
-unfolding sum sideAt overlap counts levels tried leastFrom earliestLeast refine countsAt stepAt step
+unfolding sum sideAt overlap counts levels nine leastFrom earliestLeast refine countsAt stepAt step
 empty-frames = refl
 
--- Two samples each, both compared, both disagreeing: the first candidate beside the centre compares nothing, and wins.
-nothing-compared-wins : step (record { bits = 6; tolerance = 0; shrink = average }) 2 1 (record { samples = 0 ∷ 255 ∷ []; percentile = 50 })
-    (record { samples = 255 ∷ 0 ∷ []; percentile = 50 }) ≡ shift (negsuc 0) (negsuc 0)
+-- Two samples each, both compared, both disagreeing: the first candidate beside the centre compares nothing, wins, and is the last tried.
+nothing-compared-wins : stepped (record { bits = 6; tolerance = 0; shrink = average }) 2 1 (record { samples = 0 ∷ 255 ∷ []; percentile = 50 })
+    (record { samples = 255 ∷ 0 ∷ []; percentile = 50 }) ≡ record { shift = shift (negsuc 0) (negsuc 0); comparisons = 2 }
 unfolding sum countIf build indexOf source atSources sideAt levelOf bins target binsAdded cut thresholdBit exclusionBit bitmapsOf
-    comparedBit disagreeingBit overlap counts logUpTo log2 levels tried leastFrom earliestLeast refine bitmapsAt countsAt stepAt step
+    comparedBit disagreeingBit overlap counts logUpTo log2 levels nine leastFrom earliestLeast refine bitmapsAt countsAt stepAt step
+    upToZero tried comparisonsAt comparisons stepped
 nothing-compared-wins = refl
 
 -- Of the shifts of a single pixel only the centre compares one: the others disagree in none, and a floor of 1 keeps them out.
@@ -82,7 +84,7 @@ terms f m = record { reach = 2; floor = f; margin = m }
 -- kind, by floor and margin.
 verdict-of-each-kind : (verdict twice (terms 1 0) 0 ≡ 0) × (verdict twice (terms 4 0) 1 ≡ 1) × (verdict twice (terms 1 0) 1 ≡ 2) × (verdict twice (terms 1 1) 1 ≡ 3)
 unfolding sum countIf build joined keepIf indexOf source atSources sideAt levelOf bins target binsAdded cut thresholdBit exclusionBit bitmapsOf
-    comparedBit disagreeingBit overlap counts logUpTo log2 levels tried leastFrom earliestLeast refine bitmapsAt countsAt stepAt step
+    comparedBit disagreeingBit overlap counts logUpTo log2 levels nine leastFrom earliestLeast refine bitmapsAt countsAt stepAt step
     stackOf exposure neighbour stepOf window distance isNeighbourShift comesClose isRival survey frameCounts limitOf rivals verdict
 verdict-of-each-kind = (refl, refl, refl, refl)
 

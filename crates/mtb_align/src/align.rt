@@ -112,7 +112,7 @@ fn twice(s: Shift) -> Shift
     sum
 }
 
-// A shift that was tried, with its disagreement.
+// A shift with its disagreement.
 struct Candidate {
     shift: Shift,
     error: u64,
@@ -128,23 +128,25 @@ fn better(best: Candidate, shift: Shift, error: u64) -> Candidate
     best
 }
 
-// The best of the nine offsets within a pixel of `around`, over two pairs of bitmaps.
+// The best of the nine offsets within a pixel of `around`, over two pairs of bitmaps, and how many were tried: no more after a clean
+// match, which disagrees in no pixel, since none can beat it.
 fn refine(words: &[u64], width: usize, height: usize, around: Shift) -> Step
     requires { ⌜ TwoPairs (now words) width height × Within 65536 (shiftIn around) ⌝ }
     ensures { λ r. ⌜ steppedIn r ≡ refined (costIn (now (words .entry)) width height) (shiftIn around) ⌝ }
 {
-    let centre = summed(around, CANDIDATES[0]);
-    let counts = counts_at(words, width, height, centre);
     let mut best = Candidate {
-        shift: centre,
-        error: counts.disagreeing,
+        shift: around,
+        error: 0xffff_ffff_ffff_ffff, // more than any count
     };
-    let mut made: u64 = 1;
-    for i in 1..9 {
+    let mut made: u64 = 0;
+    for i in 0..9 {
         let candidate = summed(around, CANDIDATES[i]);
         let counts = counts_at(words, width, height, candidate);
         best = better(best, candidate, counts.disagreeing);
         made += 1;
+        if counts.disagreeing == 0 {
+            break;
+        }
     }
     let shift = best.shift;
     Step {

@@ -1,5 +1,5 @@
 -- The earliest least: it is one of the list, none costs less, and every earlier one costs more.
-use mathlib.Core.Path.{_≡_, refl, ap}
+use mathlib.Core.Path.{_≡_, refl}
 use mathlib.Core.Bool.{Bool, true, false, cond}
 use mathlib.Core.List.{List, [], _∷_}
 use Prim.Native.Nat.{ℕ, zero, suc, _<_, _≤_, suc-le-suc}
@@ -7,9 +7,9 @@ use native.Mathlib.Nat.{not-suc-le-zero, le-of-suc-le-suc, zero-lt-suc}
 use native.Mathlib.Omega.{arith}
 use lib.Dec.{ltb}
 use lib.ListN.{length, getD}
-use borrow.Author.Tests.{lt-ltb, le-ltb, ltb-true, ltb-false}
+use borrow.Author.Tests.{ltb-true, ltb-false}
 use Rattle.definitions.specs.Geometry.{Shift, origin}
-use Rattle.definitions.specs.Align.{tried, leastFrom, earliestLeast, refine}
+use Rattle.definitions.specs.Align.{nine, leastFrom, earliestLeast, refine}
 
 -- b is the first of the list that costs least
 pub record EarliestLeast (cost : Shift → ℕ) (l : List Shift) (b : Shift) : Type 0 where
@@ -20,15 +20,6 @@ pub record EarliestLeast (cost : Shift → ℕ) (l : List Shift) (b : Shift) : T
   pub earlier-more : (j : ℕ) → j < place → cost b < cost (getD l j origin)
 
 module _ (cost : Shift → ℕ) where
-  -- a turn of the loop that keeps the best so far
-  pub least-better : (best s : Shift) (l : List Shift) → cost s < cost best → leastFrom cost best (s ∷ l) ≡ leastFrom cost s l
-  unfolding leastFrom
-  least-better best s l h = ap (λ (t : Bool). leastFrom cost (cond t s best) l) (lt-ltb (cost s) (cost best) h)
-
-  pub least-no-better : (best s : Shift) (l : List Shift) → cost best ≤ cost s → leastFrom cost best (s ∷ l) ≡ leastFrom cost best l
-  unfolding leastFrom
-  least-no-better best s l h = ap (λ (t : Bool). leastFrom cost (cond t s best) l) (le-ltb (cost s) (cost best) h)
-
   -- one list longer: a new first that costs more, or a second that costs no less than the first
   first-more : (a s : Shift) (l : List Shift) (b : Shift) → cost s < cost a → EarliestLeast cost (s ∷ l) b → EarliestLeast cost (a ∷ s ∷ l) b
   first-more a s l b h e = record {
@@ -91,10 +82,10 @@ module _ (cost : Shift → ℕ) where
   earliest-least s l = least-from s l
 
   -- of the nine
-  pub refine-earliest-least : (centre : Shift) → EarliestLeast cost (tried cost centre) (refine cost centre)
-  unfolding tried refine
+  pub refine-earliest-least : (centre : Shift) → EarliestLeast cost (nine centre) (refine cost centre)
+  unfolding nine refine
   refine-earliest-least centre = earliest-least _ _
 
-  pub tried-nine : (centre : Shift) → length (tried cost centre) ≡ 9
-  unfolding tried
-  tried-nine centre = refl
+pub nine-nine : (centre : Shift) → length (nine centre) ≡ 9
+unfolding nine
+nine-nine centre = refl

@@ -15,7 +15,7 @@ use Rattle.definitions.specs.Shrink.{Shrink, sideAt, samplesAt, levelOf, halved
 use Rattle.definitions.specs.Refusals.{FreeUpTo}
 use Rattle.definitions.specs.Align.{Stepped, tried, refined, stepAt, comparisonsAt, steppedAt}
 use Rattle.laws.specs.search.Free.{free-then, free-stored}
-use Rattle.laws.specs.search.Least.{tried-nine}
+use Rattle.laws.specs.search.Tried.{tried-few}
 use Rattle.laws.specs.images.Pyramids.{sets-there, side-le, halved-le, level-end, level-part, pyramid-length}
 use Rattle.laws.specs.search.StepBounds.{Within, within-wider, offset-within, step-at-within, comparisons-at}
 
@@ -78,11 +78,11 @@ both-stored mode w h last r t old {mid} {new} room p q =
 abbrev pub then : Stepped → Stepped → Stepped
 then coarser finer = record { shift = finer .shift; comparisons = coarser .comparisons + finer .comparisons }
 
-pub refined-nine : (cost : Shift → ℕ) (around : Shift) {s : Stepped} → s ≡ refined cost around → s .comparisons ≡ 9
+pub refined-few : (cost : Shift → ℕ) (around : Shift) {s : Stepped} → s ≡ refined cost around → s .comparisons ≤ 9
 unfolding refined
-refined-nine cost around {s} e =
+refined-few cost around {s} e =
     let n : s .comparisons ≡ length (tried cost around) = ap (λ (x : Stepped). x .comparisons) e in
-    n ∙ tried-nine cost around
+    omega (arith, n, tried-few cost around .1)
 
 module _ (cost : ℕ → Shift → ℕ) (k last : ℕ) where
   pub step-last : {s : Stepped} → k ≡ last → s ≡ refined (cost k) origin → s ≡ steppedAt cost k (last - k)
@@ -105,7 +105,7 @@ module _ (cost : ℕ → Shift → ℕ) (k last : ℕ) where
     unfolding steppedAt
     comparisons-few =
         let n : s .comparisons ≡ comparisonsAt cost k (last - k) = ap (λ (x : Stepped). x .comparisons) e in
-        omega (arith, comparisons-at cost k (last - k))
+        omega (arith, n, comparisons-at cost k (last - k) .1)
 
     -- a step of 13 levels is small, and so is twice it
     pub step-near : Within 8191 (s .shift)

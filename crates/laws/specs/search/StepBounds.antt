@@ -13,14 +13,15 @@ use lib.Pow.{pow-mono}
 use borrow.Author.Tests.{le-leb, lt-leb}
 use native.Mathlib.Nat.{mul-le-mul-right, le-refl}
 use Rattle.definitions.specs.Geometry.{Shift, origin, offset, doubled, ahead, behind}
-use Rattle.definitions.specs.Align.{Options, Exposure, Stack, candidates, tried, refine, stepAt, comparisonsAt, costOf, step, comparisons, levels, stepOf, shiftSum, shiftOf}
+use Rattle.definitions.specs.Align.{Options, Exposure, Stack, candidates, nine, refine, stepAt, comparisonsAt, costOf, step, comparisons, levels, stepOf, shiftSum, shiftOf}
 use Rattle.definitions.specs.Refusals.{accepted, answer, coordinateOutside, shiftChecks}
 use Rattle.laws.specs.general.Cases.{lt-or-le}
 use Rattle.laws.specs.checks.Checks.{done}
 use Rattle.laws.specs.checks.ChecksGeometry.{coordinate-skip}
 use Rattle.laws.specs.general.Whole.{alone, add}
 use Rattle.laws.specs.images.Sizes.{Limits}
-use Rattle.laws.specs.search.Least.{refine-earliest-least, tried-nine}
+use Rattle.laws.specs.search.Least.{refine-earliest-least, nine-nine}
+use Rattle.laws.specs.search.Tried.{tried-few}
 use Rattle.laws.specs.images.Levels.{levels-most}
 use Rattle.laws.specs.general.Machine.{not-outside}
 
@@ -69,10 +70,10 @@ sum-within (suc n) b f h = within-wider (omega arith) (offset-within (n * b) b (
 
 -- ---- a level: within one of the centre
 
--- what is tried lies within one of the centre
-tried-within : (cost : Shift → ℕ) (m : ℕ) (centre : Shift) → Within m centre → (i : ℕ) → i < 9 → Within (m + 1) (getD (tried cost centre) i origin)
-unfolding tried
-tried-within cost m centre w i h = on i h
+-- the nine lie within one of the centre
+nine-within : (m : ℕ) (centre : Shift) → Within m centre → (i : ℕ) → i < 9 → Within (m + 1) (getD (nine centre) i origin)
+unfolding nine
+nine-within m centre w i h = on i h
   where
     near : (x y : ℤ) → natAbs x ≤ 1 → natAbs y ≤ 1 → Within (m + 1) (offset centre (record { x = x; y = y }))
     near x y p q = offset-within m 1 centre (record { x = x; y = y }) w (record { across = p; down = q })
@@ -92,7 +93,7 @@ tried-within cost m centre w i h = on i h
 pub refine-within : (cost : Shift → ℕ) (m : ℕ) (centre : Shift) → Within m centre → Within (m + 1) (refine cost centre)
 refine-within cost m centre w =
     let e = refine-earliest-least cost centre in
-    subst (λ (s : Shift). Within (m + 1) s) (e .there) (tried-within cost m centre w (e .place) (subst (λ (n : ℕ). e .place < n) (tried-nine cost centre) (e .among)))
+    subst (λ (s : Shift). Within (m + 1) s) (e .there) (nine-within m centre w (e .place) (subst (λ (n : ℕ). e .place < n) (nine-nine centre) (e .among)))
 
 -- ---- the step: within 2 ^ (d + 1) - 1, d levels finer than the last
 
@@ -121,16 +122,21 @@ step-small o w h r t p q =
     let m : 2 ^ suc (levels w h (o .bits)) ≤ 2 ^ 13 = pow-mono {j = 13} (omega arith) in
     within-wider (omega arith) (step-within o w h r t)
 
--- ---- the comparisons: nine at each of L + 1 levels
+-- ---- the comparisons: one to nine at each of L + 1 levels
 
-pub comparisons-at : (cost : ℕ → Shift → ℕ) (k d : ℕ) → comparisonsAt cost k d ≡ 9 * (d + 1)
+pub comparisons-at : (cost : ℕ → Shift → ℕ) (k d : ℕ) → (d + 1 ≤ comparisonsAt cost k d) × (comparisonsAt cost k d ≤ 9 * (d + 1))
 unfolding comparisonsAt
-comparisons-at cost k zero = tried-nine (cost k) origin
-comparisons-at cost k (suc d) = omega (arith, comparisons-at cost (suc k) d, tried-nine (cost k) (doubled (stepAt cost (suc k) d)))
+comparisons-at cost k zero = let f = tried-few (cost k) origin in (omega (arith, f .0), omega (arith, f .1))
+comparisons-at cost k (suc d) =
+    let f = tried-few (cost k) (doubled (stepAt cost (suc k) d)) in
+    let r = comparisons-at cost (suc k) d in
+    (omega (arith, f .0, r .0), omega (arith, f .1, r .1))
 
-pub comparisons-nine : (o : Options) (w h : ℕ) (r t : Exposure) → comparisons o w h r t ≡ 9 * (levels w h (o .bits) + 1)
+-- 02: the count lies between L + 1 and 9 × (L + 1)
+pub comparisons-between : (o : Options) (w h : ℕ) (r t : Exposure)
+    → (levels w h (o .bits) + 1 ≤ comparisons o w h r t) × (comparisons o w h r t ≤ 9 * (levels w h (o .bits) + 1))
 unfolding comparisons
-comparisons-nine o w h r t = comparisons-at (costOf o w h r t) 0 (levels w h (o .bits))
+comparisons-between o w h r t = comparisons-at (costOf o w h r t) 0 (levels w h (o .bits))
 
 -- ---- a stack's shifts
 

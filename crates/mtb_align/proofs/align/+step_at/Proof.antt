@@ -7,7 +7,7 @@ use borrow.Fn.PlainCycle.{Measures, is, falls, and}
 use native.Mathlib.Omega.{arith}
 use Rattle.laws.specs.search.Free.{free-then}
 use Rattle.laws.specs.search.StepBounds.{origin-within, within-wider}
-use Rattle.laws.specs.search.LevelSteps.{refined-nine, step-last, step-more, comparisons-few, step-near, twice-near}
+use Rattle.laws.specs.search.LevelSteps.{refined-few, step-last, step-more, comparisons-few, step-near, twice-near}
 use Rattle.mtb_align.specs.Levelled.{Levelled}
 use Rattle.mtb_align.proofs.align.step_at.Reads as step-at
 use Rattle.mtb_align.proofs.align.step_at.Kinds as step-at-kinds
@@ -71,7 +71,7 @@ module _ (t : ℕ) where
       let a = c .before .before .before .before .before in
       let s = a .before .before .before .before .before .before in
       let coarser = comparisons-few _ _ _ (start s .pre .1 .0 .few) (s .step-at .ensures .0) in
-      let finer = refined-nine _ _ (a .step-around2 .ensures .0) in
+      let finer = refined-few _ _ (a .step-around2 .ensures .0) in
       omega arith
 
   returns-2 : step-at-lts.Need-returns-2 calls at step-at.Post
