@@ -35,6 +35,12 @@ pub fn levels(width: usize, height: usize, bits: u32) -> usize {
         .count()
 }
 
+fn packed(samples: Vec<u8>, (width, height): (usize, usize), options: &Options) -> Bitmaps {
+    let gray = Gray::from_vec(samples, width, height);
+    let percentile = Percentile::new(options.percentile);
+    compute_bitmaps(&gray, percentile, options.tolerance)
+}
+
 /// How many shifts the step of a sound pair tries at each level, full size first: up to and
 /// including the first that disagrees in no pixel, or nine. The original halves, packs and
 /// counts.
@@ -42,12 +48,11 @@ pub fn tried(reference: Frame, target: Frame, options: &Options) -> Vec<u64> {
     let bitmaps = |frame: Frame| -> Vec<Bitmaps> {
         let mut levels = vec![frame.samples.to_vec()];
         levels.extend(halved_levels(frame, options.bits, options.shrink));
-        let packed = |(level, samples)| {
-            let gray = Gray::from_vec(samples, frame.width >> level, frame.height >> level);
-            let percentile = Percentile::new(options.percentile);
-            compute_bitmaps(&gray, percentile, options.tolerance)
-        };
-        levels.into_iter().enumerate().map(packed).collect()
+        let size = |level| (frame.width >> level, frame.height >> level);
+        let levels = levels.into_iter().enumerate();
+        levels
+            .map(|(level, samples)| packed(samples, size(level), options))
+            .collect()
     };
     let (reference, target) = (bitmaps(reference), bitmaps(target));
 
@@ -139,9 +144,7 @@ pub fn report(stack: Stack, options: &Options, rivalry: &Rivalry) -> Report {
     let bitmaps: Vec<Bitmaps> = (0..stack.widths.len())
         .map(|frame| {
             let samples = &stack.samples[frame * width * height..][..width * height];
-            let gray = Gray::from_vec(samples.to_vec(), width, height);
-            let percentile = Percentile::new(options.percentile);
-            compute_bitmaps(&gray, percentile, options.tolerance)
+            packed(samples.to_vec(), (width, height), options)
         })
         .collect();
 
