@@ -16,7 +16,7 @@ use Rattle.definitions.specs.Refusals.{FreeUpTo}
 use Rattle.laws.specs.bitmaps.Bitmaps.{IsBitmap}
 use Rattle.laws.specs.bitmaps.Packed.{packed-length, packedThreshold, packedExclusion, threshold-bitmap, exclusion-bitmap, counts-packed}
 use Rattle.laws.specs.images.Runs.{sets-then}
-use Rattle.laws.specs.general.Writes.{sets-front, drop-past}
+use Rattle.laws.specs.general.Writes.{stored-front, drop-past}
 use Rattle.mtb_align.specs.Search.{mapAt, FourMaps, TwoPairs, pairCounts, costIn, packedPair, pairOf, fourOf}
 
 -- ---- a part of a list
@@ -59,9 +59,7 @@ module _ (w h tolerance : ℕ) (r t : Exposure) where
 
   module _ (l : List ℕ) (room : 4 * bitmapWords w h ≤ length l) {new : List ℕ} (e : new ≡ sets l 0 four) where
     pub four-front : (k : ℕ) → k ≡ 4 * bitmapWords w h → take k new ≡ four
-    four-front k q =
-        ap (take k) (e ∙ sets-front l four (omega (arith, four-length)))
-        ∙ take-at four (drop (length four) l) k (four-length ∙ sym q)
+    four-front k q = stored-front l four (omega (arith, four-length)) e k (q ∙ sym four-length)
 
     pub four-free : FreeUpTo (4 * bitmapWords w h) l new
     four-free = record {

@@ -111,7 +111,7 @@ fn lane_total(lanes: &[u32; 4 * LEVELS], v: usize) -> u32
 // The totals of the values from v on, as many as are folded at a time, in the lanes' own width: LLVM then adds four at a time, and two
 // where each total is made a bin at once.
 fn part_totals(lanes: &[u32; 4 * LEVELS], v: usize) -> [u32; PART]
-    requires { ⌜ (v + 64 ≤ 256) × ((u : ℕ) → u < 256 → laneTotal (now lanes) u ≤ 67108864) ⌝ }
+    requires { ⌜ (v + 64 ≤ 256) × Room (now lanes) 0 ⌝ }
     ensures { λ r. ⌜ r ≡ build 64 (λ (i : ℕ). laneTotal (now (lanes .entry)) (v + i)) ⌝ }
 {
     let mut totals = [0u32; PART];
@@ -125,7 +125,7 @@ fn part_totals(lanes: &[u32; 4 * LEVELS], v: usize) -> [u32; PART]
 
 // The bins of these values.
 fn fold_part(bins: &mut [u64; LEVELS], lanes: &[u32; 4 * LEVELS], v: usize)
-    requires { ⌜ (v + 64 ≤ 256) × ((u : ℕ) → u < 256 → laneTotal (now lanes) u ≤ 67108864) ⌝ }
+    requires { ⌜ (v + 64 ≤ 256) × Room (now lanes) 0 ⌝ }
     ensures { λ _. ⌜ now (bins .exit) ≡ sets (now (bins .entry)) v (build 64 (λ (i : ℕ). laneTotal (now (lanes .entry)) (v + i))) ⌝ }
 {
     let totals = part_totals(lanes, v);
@@ -138,7 +138,7 @@ fn fold_part(bins: &mut [u64; LEVELS], lanes: &[u32; 4 * LEVELS], v: usize)
 
 // The four lanes as one.
 fn fold_lanes(lanes: &[u32; 4 * LEVELS]) -> [u64; LEVELS]
-    requires { ⌜ ((v : ℕ) → v < 256 → laneTotal (now lanes) v ≤ 67108864) ⌝ }
+    requires { ⌜ Room (now lanes) 0 ⌝ }
     ensures { λ r. ⌜ r ≡ build 256 (laneTotal (now (lanes .entry))) ⌝ }
 {
     let mut bins = [0u64; LEVELS];

@@ -27,7 +27,7 @@ pub(crate) struct Frames {
 
 // Frame i of the walk over n frames: from the one below the reference down to 0, then from the one above it up.
 pub(crate) fn walked(reference: usize, n: usize, i: usize) -> usize
-    requires { ⌜ (reference < n) × (n ≤ 16) × (i + 1 < n) ⌝ }
+    requires { ⌜ (reference < n) × (i + 1 < n) ⌝ }
     ensures { λ r. ⌜ r ≡ getD (definition.walk reference n) i 0 ⌝ }
 {
     if i < reference {
@@ -38,7 +38,6 @@ pub(crate) fn walked(reference: usize, n: usize, i: usize) -> usize
 
 // The frame next to frame k on the reference's side.
 pub(crate) fn neighbour_of(reference: usize, k: usize) -> usize
-    requires { ⌜ reference < 16 ⌝ }
     ensures { λ r. ⌜ r ≡ neighbour reference k ⌝ }
 {
     if k < reference {

@@ -6,6 +6,7 @@
 --     both            the sum of two readings
 --     fits32, fits64  that z fits, by its two parts (`Whole.antt`), which `omega` bounds;  part32    and back
 --     widen, sum-fits     that an i64 holds what an i32 holds, and the sum of two such
+--     negated-fits, negated-nat, negated-read     0 less an i32 below 0, made in 64 bits: the needs of the operation and of its cast, and its value
 --     negative, not-negative, under, not-under, held     what the code's tests of a coordinate say;  not-outside    held's converse
 --     in-order, not-in-order     what a test of two coordinates says
 use mathlib.Core.Path.{_≡_, refl, sym, ap, ap₂, _∙_, subst}
@@ -13,14 +14,14 @@ use mathlib.Core.Bool.{Bool, true, false, not, _&&_}
 use Prim.Native.Nat.{ℕ, _+_, _<_, _≤_, _^_, min, max}
 use native.Mathlib.Omega.{arith}
 use lib.Dec.{T}
-use lib.IntN.{ℤ, pos, negsuc, natAbs, _+ℤ_}
+use lib.IntN.{ℤ, pos, negsuc, natAbs, _+ℤ_, _-ℤ_}
 use lib.Signed.{mag, nonNeg, ltZ, leZ}
 use mir.Syntax.{Width, w32, w64}
 use mir.Val.{Fits, SFits, bits, toZ, ofZ}
 use mir.Facts.{toZ-ofZ}
 use Rattle.definitions.specs.Geometry.{ahead, behind, inI32}
 use Rattle.laws.specs.general.Cases.{clash}
-use Rattle.laws.specs.general.Whole.{alone, add, equal, parts-of, lt-true, lt-false, le-true, le-false, true-lt, false-lt, true-le, false-le}
+use Rattle.laws.specs.general.Whole.{alone, add, minus, equal, parts-of, lt-true, lt-false, le-true, le-false, true-lt, false-lt, true-le, false-le}
 
 pub read : {w : Width} {y z : ℤ} → y ≡ z → SFits w z → toZ w (ofZ w y) ≡ z
 read {w} e f = ap (λ (x : ℤ). toZ w (ofZ w x)) e ∙ toZ-ofZ f
@@ -91,6 +92,29 @@ module _ {y z : ℤ} (e : y ≡ z) where
       less (pos 2147483647) y
       ∙ sym (ap (λ (b : Bool). not (b && leZ y (pos 2147483647))) (true-le (negsuc 2147483647) y (lt-false y (negsuc 2147483647) t)))
       ∙ ap (λ (x : ℤ). not (inI32 x)) e
+
+-- ---- 0 less an i32 below 0, as it is made in 64 bits
+
+abbrev negatedOf : ℤ → ℤ
+negatedOf x = pos 0 -ℤ toZ w64 (ofZ w64 (toZ w32 (ofZ w32 x)))
+
+module _ {x : ℤ} (f : SFits w32 x) (t : ltZ (toZ w32 (ofZ w32 x)) (pos 0) ≡ true) where
+  negated : negatedOf x ≡ pos (behind x)
+  negated =
+      ap (λ (z : ℤ). pos 0 -ℤ z) (read (toZ-ofZ f) (widen f))
+      ∙ equal (pos 0 -ℤ x) (pos (behind x)) (omega (arith, minus (pos 0) x, negative (toZ-ofZ f) t, alone (pos 0 -ℤ x)))
+
+  positive-fits : SFits w64 (pos (behind x))
+  positive-fits = fits64 (pos (behind x)) (omega (arith, part32 x f .1)) (omega arith)
+
+  pub negated-fits : SFits w64 (negatedOf x)
+  negated-fits = fit negated positive-fits
+
+  pub negated-read : toZ w64 (ofZ w64 (negatedOf x)) ≡ pos (behind x)
+  negated-read = read negated positive-fits
+
+  pub negated-nat : T (nonNeg (toZ w64 (ofZ w64 (negatedOf x)))) × Fits w64 (natAbs (toZ w64 (ofZ w64 (negatedOf x))))
+  negated-nat = to-nat negated-read (omega (arith, part32 x f .1))
 
 -- and back: what is not outside fits
 both-true : (a b : Bool) → not (a && b) ≡ false → (a ≡ true) × (b ≡ true)

@@ -26,7 +26,7 @@ loop-holds : tie.Need-loop-holds Inv-loop μ-loop
 loop-holds c = refl
 
 walked-requires : tie.Need-walked-requires Inv-loop μ-loop
-walked-requires c κs = let p = c .before .before .before .before .pre in (p .0, p .2, omega arith)
+walked-requires c κs = let p = c .before .before .before .before .pre in (p .0, omega arith)
 
 -- the frame and its neighbour are among the frames
 among : (c : tie.After-neighbour-of Inv-loop μ-loop)
@@ -98,7 +98,7 @@ pairs-fit-spec =
     (λ c. omega arith)
     loop-holds
     walked-requires
-    (λ c κs. omega arith)
+    (λ c κs. search needs)
     (λ c. omega (arith, among c))
     (λ c. omega (arith, among (c .before)))
     (λ c. omega (arith, among (c .before)))

@@ -9,9 +9,6 @@ use Rattle.mtb_align.proofs.Surveyed.{two-frames, placed-near, placed-s
 use Rattle.mtb_align.proofs.rivals.sight.Statement.{statement}
 use Rattle.mtb_align.proofs.rivals.sight.Tie as tie
 
-neighbour-of-requires : tie.Need-neighbour-of-requires
-neighbour-of-requires c κs = let small = c .before .before .pre .0 .0 .small in omega (arith, small .reference, small .frames)
-
 -- the neighbour is one of the frames
 among : (c : tie.After-neighbour-of) → c .neighbour-of .result < c .before .before .before .args .frames .count
 among c =
@@ -44,4 +41,4 @@ returns c =
     )
 
 pub sight-spec : {M : Type 1} → statement M
-sight-spec = tie.close (tie.spec neighbour-of-requires pack-frames-requires step-by-shifts-requires (λ c. search needs) returns)
+sight-spec = tie.close (tie.spec (λ c κs. search needs) pack-frames-requires step-by-shifts-requires (λ c. search needs) returns)

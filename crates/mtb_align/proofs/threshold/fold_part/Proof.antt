@@ -32,7 +32,7 @@ total c =
     ap (λ (l : List ℕ). getD l i 0) (c .before .before .part-totals .ensures) ∙ build-at 64 (λ (j : ℕ). laneTotal (x .lanes .now) (x .v + j)) i 0 (omega arith)
 
 cast-bins : tie.Need-cast-bins Inv-loop μ-loop
-cast-bins c = omega (arith, total c, c .before .before .before .pre .1 (c .before .before .before .args .v + c .before .loop .i) (omega arith))
+cast-bins c = omega (arith, total c, c .before .before .before .pre .1 .fits (c .before .before .before .args .v + c .before .loop .i) (omega arith))
 
 loop-again : tie.Need-loop-again Inv-loop μ-loop
 loop-again c = (omega arith, stored-more (c .before .loop .inv .1) (total c))

@@ -22,7 +22,7 @@ tally-rows-requires c κs =
 fold-lanes-requires : tie.Need-fold-lanes-requires
 fold-lanes-requires c κs =
     let a = c .before .before .before .before in
-    λ v h. omega (arith, tally-le (whole c) v h, area (a .args .width) (a .args .height) (a .pre .0) (a .pre .1), a .pre .2)
+    record { long = whole c .long; fits = λ v h. omega (arith, tally-le (whole c) v h, area (a .args .width) (a .args .height) (a .pre .0) (a .pre .1), a .pre .2) }
 
 returns : tie.Need-returns
 returns c = c .fold-lanes .ensures ∙ tally-done (whole (c .before))

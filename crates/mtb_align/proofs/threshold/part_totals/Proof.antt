@@ -17,7 +17,9 @@ loop-holds : tie.Need-loop-holds Inv-loop μ-loop
 loop-holds c = (omega arith, stored-none _ _ _)
 
 lane-total-requires : tie.Need-lane-total-requires Inv-loop μ-loop
-lane-total-requires c κs = (omega arith, c .before .before .pre .1 _ (omega arith))
+lane-total-requires c κs =
+    let s = c .before .before in
+    (omega arith, omega (arith, s .pre .1 .fits (s .args .v + c .before .loop .i) (omega arith)))
 
 loop-again : tie.Need-loop-again Inv-loop μ-loop
 loop-again c = (omega arith, stored-first (c .before .before .loop .inv .1) (c .lane-total .ensures))

@@ -30,12 +30,7 @@ loop-holds c = none-walked
 walked-requires : tie.Need-walked-requires Inv-loop μ-loop
 walked-requires c κs =
     let small = c .before .before .before .before .before .before .before .before .pre .0 .framed .small in
-    (small .reference, small .frames, omega (arith, c .loop-test .taken))
-
-neighbour-of-requires : tie.Need-neighbour-of-requires Inv-loop μ-loop
-neighbour-of-requires c κs =
-    let small = c .before .before .before .before .before .before .before .before .before .pre .0 .framed .small in
-    omega (arith, small .reference, small .frames)
+    (small .reference, omega (arith, c .loop-test .taken))
 
 -- what the turn finds
 turn : (c : tie.After-neighbour-of Inv-loop μ-loop)
@@ -129,7 +124,7 @@ walk-spec =
     sub-i-end
     loop-holds
     walked-requires
-    neighbour-of-requires
+    (λ c κs. tt)
     frame-step-requires
     shift-at-requires
     summed-requires

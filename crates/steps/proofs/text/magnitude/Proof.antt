@@ -1,50 +1,28 @@
 use mathlib.Core.Path.{_≡_, ap, _∙_}
-use Prim.Native.Nat.{_≤_}
 use native.Mathlib.Omega.{arith}
-use lib.IntN.{ℤ, pos, natAbs, _-ℤ_}
-use mir.Syntax.{w32, w64}
-use mir.Val.{toZ, ofZ}
+use lib.IntN.{natAbs}
 use mir.Facts.{toZ-ofZ}
 use Rattle.definitions.specs.Geometry.{behind}
 use Rattle.laws.specs.search.StepBounds.{abs-parts}
-use Rattle.laws.specs.general.Whole.{alone, minus, equal}
-use Rattle.laws.specs.general.Machine.{part32, widen, fit, fits64, read, negative, not-negative, nat, to-nat}
+use Rattle.laws.specs.general.Machine.{part32, widen, fit, negative, not-negative, nat, to-nat, negated-fits, negated-nat, negated-read}
 use Rattle.steps.proofs.text.magnitude.Statement.{statement}
 use Rattle.steps.proofs.text.magnitude.Tie as tie
-
--- 0 less the coordinate, which lies below 0
-module _ (c : tie.Then1) where
-  abbrev x : ℤ
-  x = c .before .args .coordinate
-
-  abbrev less : ℤ
-  less = pos 0 -ℤ toZ w64 (ofZ w64 (toZ w32 (ofZ w32 x)))
-
-  turned : less ≡ pos (behind x)
-  turned =
-      let f = c .before .fits .coordinate in
-      ap (λ (z : ℤ). pos 0 -ℤ z) (read (toZ-ofZ f) (widen f))
-      ∙ equal (pos 0 -ℤ x) (pos (behind x)) (omega (arith, minus (pos 0) x, negative (toZ-ofZ f) (c .if1 .taken), alone (pos 0 -ℤ x)))
-
-  small : behind x ≤ 2147483648
-  small = part32 x (c .before .fits .coordinate) .1
-
-  result : toZ w64 (ofZ w64 less) ≡ pos (behind x)
-  result = read turned (fits64 (pos (behind x)) (omega (arith, small)) (omega arith))
 
 cast-result : tie.Need-cast-result
 cast-result c = let f = c .before .fits .coordinate in fit (toZ-ofZ f) (widen f)
 
 sub-result : tie.Need-sub-result
-sub-result c = fit (turned c) (fits64 (pos (behind (x c))) (omega (arith, small c)) (omega arith))
+sub-result c = negated-fits (c .before .fits .coordinate) (c .if1 .taken)
 
 cast-result-2 : tie.Need-cast-result-2
-cast-result-2 c = to-nat (result c) (omega (arith, small c))
+cast-result-2 c = negated-nat (c .before .fits .coordinate) (c .if1 .taken)
 
 returns : tie.Need-returns
 returns c =
-    let e : behind (x c) ≡ natAbs (x c) = omega (arith, abs-parts (x c), negative (toZ-ofZ (c .before .fits .coordinate)) (c .if1 .taken)) in
-    nat (result c) ∙ e
+    let x = c .before .args .coordinate in
+    let f = c .before .fits .coordinate in
+    let e : behind x ≡ natAbs x = omega (arith, abs-parts x, negative (toZ-ofZ f) (c .if1 .taken)) in
+    nat (negated-read f (c .if1 .taken)) ∙ e
 
 cast-result-3 : tie.Need-cast-result-3
 cast-result-3 c =
