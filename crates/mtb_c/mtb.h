@@ -1,5 +1,5 @@
 /*
- * mtb.h: image registration by median threshold bitmaps, every call proved. Version 3.0.0.
+ * mtb.h: image registration by median threshold bitmaps, every call proved. Version 3.1.0.
  *
  * Link libmtb_c.a, which `rt staticlib mtb_c` writes to target/staticlib (x86-64). docs/CALLS.md has each call in full.
  *
@@ -7,8 +7,8 @@
  * after "Refused:". A refused call writes nothing but `values`, and under 10 the scratch.
  *
  * Lists. A list passes as a pointer and its length in elements. Its length is exactly the one given with the call; only scratch and
- * record space may be longer, and then what lies past the need stays as it was. Pointers are aligned and never null, not at length 0
- * either, and what a call writes overlaps nothing else that it is lent.
+ * record space may be longer, and then what lies past the need stays as it was, and a file has any length. Pointers are aligned and
+ * never null, not at length 0 either, and what a call writes overlaps nothing else that it is lent.
  *
  * Slots, such as `x` or `count`, are never read, so that they need not be set before. They are written only where the call is
  * accepted; mtb_row and mtb_level, which have no refusal, always write theirs. `values` is written at its front by the refusals that
@@ -33,7 +33,7 @@
 extern "C" {
 #endif
 
-#define MTB_VERSION "3.0.0"
+#define MTB_VERSION "3.1.0"
 
 /* Limits. */
 #define MTB_MOST_SIDE 8192
@@ -68,7 +68,10 @@ enum mtb_status {
     MTB_REACH = 9,       /* a reach over 64 */
     MTB_RECORDS = 10,    /* record space too short */
     MTB_PIXEL = 11,      /* a pixel outside */
-    MTB_COORDINATE = 12  /* a coordinate outside 32 bits */
+    MTB_COORDINATE = 12, /* a coordinate outside 32 bits */
+    MTB_HEADER = 13,     /* a PGM header malformed or cut short, or a place past the file's end */
+    MTB_HIGHEST = 14,    /* a highest value other than 255 */
+    MTB_SHORT = 15       /* fewer samples than the header promises */
 };
 
 /* ---- single frames ---- */
@@ -110,6 +113,27 @@ uint32_t mtb_count_ones(const uint64_t *words, size_t words_length, size_t width
    Both are 0 where 1, 2 or 11 holds. */
 size_t mtb_row(const uint64_t *words, size_t words_length, size_t width, size_t height,
                size_t y, size_t *start);
+
+/* ---- PGM files ---- */
+
+/* Reads the image that begins at byte `at` of a file, in Netpbm's binary greymap format: P5, then width, height and highest value, each a
+   number behind white space, one white space byte, and width * height samples. White space is one or more of blank, tab, carriage
+   return and line feed; before the highest value a comment, from # through the next line feed, counts as white space, alone too. A
+   number has one or more digits, as many as it likes, zeros in front among them. Sides may be 0.
+   samples is where the samples start, so that file + samples is the frame, in place; next is the byte behind them, where another image
+   may begin. Refused: 13; 1; 14; 15. Writes width, height, samples, next. */
+uint32_t mtb_read_pgm(const uint8_t *file, size_t file_length, size_t at,
+                      size_t *width, size_t *height, size_t *samples, size_t *next);
+
+/* Reads as many images as there are widths, each directly behind the one before it, the first at byte `at`, and lays them out as
+   mtb_align_stack and mtb_report take them: widths, heights, and the samples joined. samples has exactly the sum of their width * height,
+   which mtb_read_pgm tells image by image. Sizes may differ; a stack of such frames is refused by 4. next is the byte behind the last image,
+   or `at` where none is asked for.
+   Refused: 6; 2 for heights; 13, 1, 14, 15 of one image after another; 2 for samples. Where no image is asked for, a place past the end is 13
+   too. Writes widths, heights, samples, next. */
+uint32_t mtb_read_stack(const uint8_t *file, size_t file_length, size_t at,
+                        size_t *widths, size_t widths_length, size_t *heights, size_t heights_length,
+                        uint8_t *samples, size_t samples_length, size_t *next);
 
 /* ---- levels ---- */
 

@@ -1,5 +1,5 @@
 -- Numbers, whole numbers, sums and lists, whatever they stand for.
-pub mod Cases  -- cases by an order or an equation of numbers
+pub mod Cases  -- cases by an order or an equation of numbers, a choice by a test that is known
 pub mod Whole  -- a whole number as two natural numbers of which one is 0, in the form that `omega` reads
 pub mod Machine  -- a signed local and its casts, by the whole number that it holds
 pub mod Sums  -- sums over a number: one more, split, the same terms, zero past a bound, bounds

@@ -10,52 +10,52 @@ use lib.Dec.{leb, eqb}
 use lib.ListN.{length, getD, drop, set, drop-of-length-le}
 use lib.Seq.{sets, length-sets, drop-cons}
 use Rattle.replay.specs.Lines.{withDigit, grown, number, numbersFrom, numbersOf, lineLength}
-use Rattle.replay.proofs.Told.{chosen, passed, and-yes, and-no}
+use Rattle.laws.specs.general.Cases.{cond-true, cond-false, and-yes, and-no}
 
 -- ---- a digit
 
 pub digit-within : (n d : ℕ) → n * 10 + d < 18446744073709551616 → withDigit n d ≡ n * 10 + d
 unfolding withDigit
-digit-within n d h = chosen (n * 10 + d) 0 (lt-ltb (n * 10 + d) 18446744073709551616 h)
+digit-within n d h = cond-true (n * 10 + d) 0 (lt-ltb (n * 10 + d) 18446744073709551616 h)
 
 pub digit-past : (n d : ℕ) → 18446744073709551616 ≤ n * 10 + d → withDigit n d ≡ 0
 unfolding withDigit
-digit-past n d h = passed (n * 10 + d) 0 (le-ltb (n * 10 + d) 18446744073709551616 h)
+digit-past n d h = cond-false (n * 10 + d) 0 (le-ltb (n * 10 + d) 18446744073709551616 h)
 
 pub grown-below : (n c : ℕ) → c < 48 → grown n c ≡ n
 unfolding grown
-grown-below n c h = passed (withDigit n (c - 48)) n (ap (λ (t : Bool). t && leb c 57) (lt-leb 48 c h))
+grown-below n c h = cond-false (withDigit n (c - 48)) n (ap (λ (t : Bool). t && leb c 57) (lt-leb 48 c h))
 
 pub grown-above : (n c : ℕ) → 57 < c → grown n c ≡ n
 unfolding grown
-grown-above n c h = passed (withDigit n (c - 48)) n (and-no (leb 48 c) (lt-leb c 57 h))
+grown-above n c h = cond-false (withDigit n (c - 48)) n (and-no (leb 48 c) (lt-leb c 57 h))
 
 pub grown-digit : (n c : ℕ) → 48 ≤ c → c ≤ 57 → grown n c ≡ withDigit n (c - 48)
 unfolding grown
-grown-digit n c h l = chosen (withDigit n (c - 48)) n (and-yes (le-leb 48 c h) (le-leb c 57 l))
+grown-digit n c h l = cond-true (withDigit n (c - 48)) n (and-yes (le-leb 48 c h) (le-leb c 57 l))
 
 -- ---- a character of the line
 
 at-end : (negative : Bool) (n c : ℕ) (t : List ℕ) → c ≡ 10 → numbersFrom negative n (c ∷ t) ≡ number negative n ∷ []
 unfolding numbersFrom
-at-end negative n c t e = chosen _ _ (eq-eqb c 10 e)
+at-end negative n c t e = cond-true _ _ (eq-eqb c 10 e)
 
 at-blank : (negative : Bool) (n c : ℕ) (t : List ℕ) → c ≡ 32 → numbersFrom negative n (c ∷ t) ≡ number negative n ∷ numbersOf t
 unfolding numbersFrom
-at-blank negative n c t e = passed _ _ (ne-eqb c 10 (λ z. omega arith)) ∙ chosen _ _ (eq-eqb c 32 e)
+at-blank negative n c t e = cond-false _ _ (ne-eqb c 10 (λ z. omega arith)) ∙ cond-true _ _ (eq-eqb c 32 e)
 
 at-other : (negative : Bool) (n c : ℕ) (t : List ℕ) → (c ≡ 10 → ⊥) → (c ≡ 32 → ⊥)
     → numbersFrom negative n (c ∷ t) ≡ numbersFrom (negative || eqb c 45) (grown n c) t
 unfolding numbersFrom
-at-other negative n c t e f = passed _ _ (ne-eqb c 10 e) ∙ passed _ _ (ne-eqb c 32 f)
+at-other negative n c t e f = cond-false _ _ (ne-eqb c 10 e) ∙ cond-false _ _ (ne-eqb c 32 f)
 
 long-end : (c : ℕ) (t : List ℕ) → c ≡ 10 → lineLength (c ∷ t) ≡ 1
 unfolding lineLength
-long-end c t e = chosen 1 (suc (lineLength t)) (eq-eqb c 10 e)
+long-end c t e = cond-true 1 (suc (lineLength t)) (eq-eqb c 10 e)
 
 long-more : (c : ℕ) (t : List ℕ) → (c ≡ 10 → ⊥) → lineLength (c ∷ t) ≡ suc (lineLength t)
 unfolding lineLength
-long-more c t e = passed 1 (suc (lineLength t)) (ne-eqb c 10 e)
+long-more c t e = cond-false 1 (suc (lineLength t)) (ne-eqb c 10 e)
 
 -- ---- what is left of the line
 

@@ -10,11 +10,10 @@ use lib.IntN.{ℤ, pos, _-ℤ_}
 use mir.Syntax.{w32}
 use mir.Val.{SFits, toZ, ofZ}
 use mir.Facts.{toZ-ofZ}
-use Rattle.laws.specs.general.Cases.{lt-or-le}
+use Rattle.laws.specs.general.Cases.{lt-or-le, cond-true, cond-false, and-no, and-yes}
 use Rattle.laws.specs.general.Machine.{fits32}
 use Rattle.laws.specs.general.Whole.{alone, minus}
 use Rattle.replay.specs.Lists.{coordinateOf}
-use Rattle.replay.proofs.Told.{chosen, passed, and-no, and-yes}
 
 -- a number below 2 ^ 31 as an i32
 pub plain : (n : ℕ) → n < 2147483648 → toZ w32 n ≡ pos n
@@ -33,23 +32,23 @@ less-fits n h =
 -- a number that is a coordinate, one that is none, one of a negative coordinate
 pub ahead-of : (n : ℕ) → n < 2147483648 → coordinateOf n ≡ pos n
 unfolding coordinateOf
-ahead-of n h = chosen _ _ (lt-ltb n 2147483648 h)
+ahead-of n h = cond-true _ _ (lt-ltb n 2147483648 h)
 
 pub none-below : (n : ℕ) → 2147483648 ≤ n → n < 9223372036854775808 → coordinateOf n ≡ pos 0
 unfolding coordinateOf
 none-below n h l =
-    passed _ _ (le-ltb n 2147483648 h)
-    ∙ passed _ _ (ap (λ (t : Bool). t && leb n 9223372039002259456) (lt-leb 9223372036854775808 n l))
+    cond-false _ _ (le-ltb n 2147483648 h)
+    ∙ cond-false _ _ (ap (λ (t : Bool). t && leb n 9223372039002259456) (lt-leb 9223372036854775808 n l))
 
 pub none-above : (n : ℕ) → 9223372039002259456 < n → coordinateOf n ≡ pos 0
 unfolding coordinateOf
-none-above n h = passed _ _ (le-ltb n 2147483648 (omega arith)) ∙ passed _ _ (and-no (leb 9223372036854775808 n) (lt-leb n 9223372039002259456 h))
+none-above n h = cond-false _ _ (le-ltb n 2147483648 (omega arith)) ∙ cond-false _ _ (and-no (leb 9223372036854775808 n) (lt-leb n 9223372039002259456 h))
 
 pub behind-of : (n : ℕ) → 9223372036854775808 ≤ n → n ≤ 9223372039002259456 → coordinateOf n ≡ pos 0 -ℤ pos (n - 9223372036854775808)
 unfolding coordinateOf
 behind-of n h l =
-    passed _ _ (le-ltb n 2147483648 (omega arith))
-    ∙ chosen _ _ (and-yes (le-leb 9223372036854775808 n h) (le-leb n 9223372039002259456 l))
+    cond-false _ _ (le-ltb n 2147483648 (omega arith))
+    ∙ cond-true _ _ (and-yes (le-leb 9223372036854775808 n h) (le-leb n 9223372039002259456 l))
 
 -- each is an i32
 pub coordinate-fits : (n : ℕ) → SFits w32 (coordinateOf n)

@@ -12,6 +12,7 @@ ghost use mathlib.Core.Path.{_≡_};
 ghost use mathlib.Core.List.{_∷_};
 ghost use Prim.Native.Nat.{_%_};
 ghost use lib.ListN.{length, getD};
+ghost use lib.Seq.{sets};
 ghost use Rattle.replay.specs.Lists.{Whether};
 ghost use Rattle.replay.specs.Answers.{refusalLine, BytesAnswer, PastMarked, modeAt};
 
@@ -49,6 +50,20 @@ pub fn options(numbers: &[u64]) -> Options
         tolerance: byte(at(numbers, 1)),
         percentile: byte(at(numbers, 2)),
         shrink: mode(at(numbers, 3)),
+    }
+}
+
+// Sizes as words, as far as both lists reach.
+pub fn words_of(sizes: &[usize], out: &mut [u64])
+    ensures { λ _. ⌜ now (out .exit) ≡ sets (now (out .entry)) 0 (now (sizes .entry)) ⌝ }
+{
+    let mut i: usize = 0;
+    while i < out.len() {
+        if i >= sizes.len() {
+            return;
+        }
+        out[i] = sizes[i] as u64;
+        i += 1;
     }
 }
 

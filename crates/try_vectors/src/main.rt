@@ -4,6 +4,7 @@
 mod align;
 mod bitmap;
 mod difference;
+mod files;
 mod geometry;
 mod gray;
 mod report;
@@ -59,7 +60,7 @@ fn on_stack(numbers: &[u64], call: usize, samples: &[u8]) -> bool {
     report::report(asked, &widths[0..n], &heights[0..m], samples)
 }
 
-// A call on samples, which are loaded. A frame that a call writes is lent marked, and longer than it may need; the case cuts it as the
+// A call on samples or a file, which are loaded. A frame that a call writes is lent marked, and longer than it may need; the case cuts it as the
 // line says.
 fn on_loaded(numbers: &[u64], call: usize, samples: &[u8]) -> bool {
     let mut out = [MARK; SAMPLES];
@@ -72,11 +73,13 @@ fn on_loaded(numbers: &[u64], call: usize, samples: &[u8]) -> bool {
         6 => align::pyramid(numbers, samples, &mut out),
         7 => align::level(numbers, samples),
         16 => align::shift(numbers, samples),
+        19 => files::read_pgm(numbers, samples),
+        20 => files::read_stack(numbers, samples, &mut out),
         _ => on_stack(numbers, call, samples),
     }
 }
 
-// A call on samples, whose list comes first.
+// A call on samples or a file, whose list comes first.
 fn on_samples(numbers: &[u64], call: usize) -> bool {
     let len = at(numbers, 0);
     if len > SAMPLES {
@@ -110,7 +113,7 @@ fn agrees(numbers: &[u64]) -> bool {
     let call = at(numbers, 0);
     let asked = rest(numbers, 1);
     match call {
-        1..=7 | 16..=18 => on_samples(asked, call),
+        1..=7 | 16..=20 => on_samples(asked, call),
         8..=11 => on_bitmap(asked, call),
         12 => difference::disagreement(asked),
         13 => geometry::doubled(asked),
@@ -148,7 +151,7 @@ fn replayed(text: &[u8]) {
 }
 
 fn main() {
-    let mut text = [0u8; 1572864];
+    let mut text = [0u8; 2097152];
     let n = io::read_full(0, &mut text);
     replayed(&text[..n]);
 }

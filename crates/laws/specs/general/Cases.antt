@@ -1,7 +1,7 @@
--- Cases by an order or an equation of numbers.
-use mathlib.Core.Bool.{Bool, true, false}
+-- Cases by an order or an equation of numbers, and what a test that is known decides.
+use mathlib.Core.Bool.{Bool, true, false, cond, _&&_}
 use mathlib.Core.Logic.{_⊎_, inl, inr, ⊎-elim}
-use mathlib.Core.Path.{_≡_}
+use mathlib.Core.Path.{_≡_, refl, ap, ap₂}
 use native.Mathlib.Omega.{arith}
 use Prim.Native.Nat.{ℕ, zero, suc, _≤_, _<_, zero-le, suc-le-suc}
 use Rattle.definitions.specs.Sum.{bit}
@@ -28,3 +28,18 @@ clash e = let z : _≡_ {A = ℕ} 0 1 = cc in absurd (none z)
   where
     none : _≡_ {A = ℕ} 0 1 → ⊥
     none h = omega arith
+
+-- a choice by a test that is known
+pub cond-true : {A : Type 0} {b : Bool} (x y : A) → b ≡ true → cond b x y ≡ x
+cond-true x y e = ap (λ (t : Bool). cond t x y) e
+
+pub cond-false : {A : Type 0} {b : Bool} (x y : A) → b ≡ false → cond b x y ≡ y
+cond-false x y e = ap (λ (t : Bool). cond t x y) e
+
+-- two tests
+pub and-yes : {a b : Bool} → a ≡ true → b ≡ true → a && b ≡ true
+and-yes {a} {b} e f = ap₂ (λ (s t : Bool). s && t) e f
+
+pub and-no : {b : Bool} (a : Bool) → b ≡ false → a && b ≡ false
+and-no true e = e
+and-no false e = refl

@@ -1,17 +1,17 @@
 use borrow.Author.Needs.{needs}
 use mathlib.Core.Path.{sym}
 use Rattle.replay.specs.Lines.{number}
-use Rattle.replay.proofs.Told.{chosen, passed}
+use Rattle.laws.specs.general.Cases.{cond-true, cond-false}
 use Rattle.replay.proofs.number.Statement.{statement}
 use Rattle.replay.proofs.number.Tie as tie
 
 returns : tie.Need-returns
 unfolding number
-returns c = sym (chosen _ _ (c .if1 .taken))
+returns c = sym (cond-true _ _ (c .if1 .taken))
 
 returns-2 : tie.Need-returns-2
 unfolding number
-returns-2 c = sym (passed _ _ (c .if1 .left))
+returns-2 c = sym (cond-false _ _ (c .if1 .left))
 
 pub number-spec : {M : Type 1} → statement M
 number-spec = tie.close (tie.spec
