@@ -31,11 +31,30 @@ report_prints_the_texts() { # NAME
     report_prints "$1" "${reach%.stdout}" "${text%.reach_*}.stdin" "$text"
     farther=$((farther + 1))
   done
-  echo "$1: prints the text of stacksteps for $count inputs and $farther texts at a longer reach, byte for byte"
+  echo "$1: prints the text of stacksteps for $count inputs and $farther texts at a longer reach, byte for byte, also of PGM files"
 }
 
 report_prints() { # NAME REACH INPUT TEXT
   "$room/report" 64 64 "$2" <"$3" | cmp - "$4" || { echo "$1: prints another text than $4"; exit 1; }
+  images_of "$3" | "$room/report" "$2" | cmp - "$4" || { echo "$1: prints another text than $4 of a PGM file"; exit 1; }
+}
+
+# The frames of an input as PGM images.
+images_of() { # INPUT
+  local frame frames
+  frames=$(($(wc -c <"$1") / 4096))
+  for ((frame = 0; frame < frames; frame++)); do
+    printf 'P5\n# %s\n64 64\n255\n' "$1"
+    dd if="$1" bs=4096 skip="$frame" count=1 status=none
+  done
+}
+
+# A file that cannot be read: which image, and the number of its refusal.
+report_refuses() { # NAME
+  local said status=0
+  said=$(printf 'P5 1 1 255 aP5 1 1 254 b' | "$room/report" 1 2>&1) || status=$?
+  [ "$status $said" = "1 the image at byte 12 cannot be read
+refused 14" ] || { echo "$1: says $status $said of a file that cannot be read"; exit 1; }
 }
 
 # Calibration card D.
@@ -51,6 +70,7 @@ flags=(-Wall -Wextra -pedantic -Werror -I crates/mtb_c)
 if at_hand examples/report.c cc; then
   cc -std=c11 "${flags[@]}" examples/report.c "$archive" -o "$room/report"
   report_prints_the_texts 'examples/report.c as C'
+  report_refuses 'examples/report.c as C'
 fi
 if at_hand examples/report.c c++; then
   c++ -x c++ -std=c++17 "${flags[@]}" examples/report.c -x none "$archive" -o "$room/report"

@@ -1,5 +1,6 @@
-/* The report of a bracket: report WIDTH HEIGHT REACH < FRAMES. The frames stand one after another on standard input, a byte a sample.
-   Prints a line for the bracket, one for each frame and one for each of its rivals, as the program stacksteps does. */
+/* The report of a bracket: report REACH < FILE.pgm, or report WIDTH HEIGHT REACH < FRAMES. The frames stand one after another on standard
+   input, as PGM images or as bare samples, a byte each. Prints a line for the bracket, one for each frame and one for each of its rivals, as
+   the program stacksteps does. */
 #include <stdio.h>
 #include <stdlib.h>
 #include "mtb.h"
@@ -20,25 +21,69 @@ static void refused(uint32_t status) {
     exit(1);
 }
 
+static uint8_t *standard_input(size_t *length) {
+    size_t space = 65536;
+    uint8_t *input = (uint8_t *)room(space);
+    *length = 0;
+    for (;;) {
+        size_t got = fread(input + *length, 1, space - *length, stdin);
+        *length += got;
+        if (got == 0) return input;
+        if (*length == space) {
+            input = (uint8_t *)realloc(input, space *= 2);
+            if (input == NULL) exit(1);
+        }
+    }
+}
+
+/* A stack's lists. */
+static size_t frames, widths[MTB_MOST_FRAMES], heights[MTB_MOST_FRAMES], length;
+static uint8_t *samples;
+
+/* Image by image up to the file's end, for their number and that of their samples; then all of them. */
+static void read_images(const uint8_t *file, size_t file_length) {
+    size_t at = 0, start;
+    uint32_t status;
+    while (at < file_length) {
+        if (frames == MTB_MOST_FRAMES) refused(MTB_FRAMES);
+        status = mtb_read_pgm(file, file_length, at, &widths[frames], &heights[frames], &start, &at);
+        if (status != MTB_ACCEPTED) fprintf(stderr, "the image at byte %zu cannot be read\n", at), refused(status);
+        length += widths[frames] * heights[frames];
+        frames++;
+    }
+    samples = (uint8_t *)room(length);
+    status = mtb_read_stack(file, file_length, 0, widths, frames, heights, frames, samples, length, &at);
+    if (status != MTB_ACCEPTED) refused(status);
+}
+
+/* Bare samples of frames of one size. */
+static void take_frames(size_t width, size_t height) {
+    frames = width * height > 0 ? length / (width * height) : 0;
+    if (frames * width * height != length) fprintf(stderr, "bad input\n"), exit(1);
+    if (frames > MTB_MOST_FRAMES) refused(MTB_FRAMES);
+    for (size_t k = 0; k < frames; k++) widths[k] = width, heights[k] = height;
+}
+
 int main(int argc, char **argv) {
     static const char *const verdict_names[] = {"reference", "weak", "alone", "contested"};
-    if (argc != 4) return fprintf(stderr, "usage: report WIDTH HEIGHT REACH < FRAMES\n"), 2;
-    size_t width = strtoul(argv[1], NULL, 10), height = strtoul(argv[2], NULL, 10);
-    uint32_t reach = (uint32_t)strtoul(argv[3], NULL, 10);
+    if (argc != 2 && argc != 4) return fprintf(stderr, "usage: report REACH < FILE.pgm, or report WIDTH HEIGHT REACH < FRAMES\n"), 2;
+    uint32_t reach = (uint32_t)strtoul(argv[argc - 1], NULL, 10);
+    size_t input_length;
+    uint8_t *input = standard_input(&input_length);
+    if (argc == 2) {
+        read_images(input, input_length);
+        free(input);
+    } else {
+        samples = input, length = input_length;
+        take_frames(strtoul(argv[1], NULL, 10), strtoul(argv[2], NULL, 10));
+    }
 
+    /* The frames of a stack are of one size, or it is refused. */
     size_t bytes_needed, words_needed, values[5];
-    uint32_t status = mtb_scratch(width, height, MTB_BITS, &bytes_needed, &words_needed);
+    uint32_t status = mtb_scratch(frames > 0 ? widths[0] : 0, frames > 0 ? heights[0] : 0, MTB_BITS, &bytes_needed, &words_needed);
     if (status != MTB_ACCEPTED) refused(status);
     uint8_t *bytes = (uint8_t *)room(bytes_needed);
     uint64_t *words = (uint64_t *)room(8 * words_needed);
-
-    uint8_t *samples = (uint8_t *)room(MTB_MOST_FRAMES * width * height);
-    size_t length = fread(samples, 1, MTB_MOST_FRAMES * width * height, stdin);
-    size_t frames = width * height > 0 ? length / (width * height) : 0;
-    if (frames * width * height != length || getchar() != EOF) return fprintf(stderr, "bad input\n"), 1;
-
-    size_t widths[MTB_MOST_FRAMES], heights[MTB_MOST_FRAMES];
-    for (size_t k = 0; k < frames; k++) widths[k] = width, heights[k] = height;
     int32_t shifts[2 * MTB_MOST_FRAMES];
     uint8_t verdicts[MTB_MOST_FRAMES];
     size_t space = MTB_RECORD_SPACE(frames, reach <= MTB_MOST_REACH ? reach : 0);

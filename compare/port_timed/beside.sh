@@ -117,7 +117,7 @@ Both sides run $how:
 they meet the same weather. $((2 * rounds)) runs each have the code 0, 16, 32 and 48 bytes after a multiple of
 64, as its place alone moves calls on small frames by 2 to 5 %.
 The ratio is before to after: 1.03 is 3 % faster now; \`<\` marks one below 0.98. A goal is for
-original to port, with the original's lesser time of both sides.
+original, or C peer, to port, with the original's or peer's lesser time of both sides.
 HEAD
 
 # All buffers in huge pages, where Linux and its C library have them: else a large frame's pages lie

@@ -1,28 +1,42 @@
-//! Compiles the calls of OpenCV's aligner where MTB_OPENCV says that OpenCV is at hand.
+//! Compiles what the port is timed beside and is not Rust: readers of greymaps in C where cc
+//! is at hand, and the calls of OpenCV's aligner where MTB_OPENCV says that OpenCV is.
 
 use std::env;
 use std::process::{Command, Output};
 
 fn main() {
-    println!("cargo::rustc-check-cfg=cfg(opencv)");
+    for name in ["c_peer", "opencv"] {
+        println!("cargo::rustc-check-cfg=cfg({name})");
+    }
     println!("cargo::rerun-if-env-changed=MTB_OPENCV");
+    println!("cargo::rerun-if-changed=src/peer.c");
     println!("cargo::rerun-if-changed=src/opencv.cpp");
+    if Command::new("cc").arg("--version").output().is_ok() {
+        let warnings = ["-Wall", "-Wextra", "-Werror"];
+        compiled("c_peer", "src/peer.c", Command::new("cc").args(warnings));
+    }
     if env::var_os("MTB_OPENCV").is_none_or(|version| version.is_empty()) {
         return;
     }
 
-    let object = env::var("OUT_DIR").expect("cargo sets it") + "/opencv.o";
     let mut compiler = Command::new("g++");
-    compiler.args(["-std=c++17", "-O2", "-c", "src/opencv.cpp", "-o", &object]);
-    done(compiler.args(flags("--cflags")));
-    println!("cargo::rustc-link-arg-bins={object}");
+    compiler.arg("-std=c++17").args(flags("--cflags"));
+    compiled("opencv", "src/opencv.cpp", &mut compiler);
     for flag in flags("--libs-only-L") {
         println!("cargo::rustc-link-arg-bins={flag}");
     }
     for library in ["opencv_photo", "opencv_core", "stdc++"] {
         println!("cargo::rustc-link-arg-bins=-l{library}");
     }
-    println!("cargo::rustc-cfg=opencv");
+}
+
+/// Compiles a source, links it and sets its name, which says that it is there.
+fn compiled(name: &str, source: &str, compiler: &mut Command) {
+    let folder = env::var("OUT_DIR").expect("cargo sets it");
+    let object = format!("{folder}/{name}.o");
+    done(compiler.args(["-O2", "-c", source, "-o", &object]));
+    println!("cargo::rustc-link-arg-bins={object}");
+    println!("cargo::rustc-cfg={name}");
 }
 
 fn flags(kind: &str) -> Vec<String> {

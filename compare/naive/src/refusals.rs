@@ -1,4 +1,4 @@
-//! The twelve refusals and the limits behind them.
+//! The fifteen refusals and the limits behind them.
 
 /// Why a call was refused. Values come with 4, 5 and 10.
 #[derive(Clone, Debug, PartialEq, Eq)]
@@ -26,6 +26,9 @@ pub const REACH_TOO_FAR: u32 = 9;
 pub const RECORD_SPACE_TOO_SHORT: u32 = 10;
 pub const PIXEL_OUTSIDE: u32 = 11;
 pub const COORDINATE_OUTSIDE: u32 = 12;
+pub const HEADER_MALFORMED: u32 = 13;
+pub const HIGHEST_VALUE_OTHER: u32 = 14;
+pub const SAMPLES_MISSING: u32 = 15;
 
 pub const LONGEST_SIDE: usize = 8192;
 pub const MOST_FRAMES: usize = 16;

@@ -15,6 +15,7 @@
 //! functions here are safe.
 
 pub mod counts;
+pub mod files;
 pub mod frames;
 pub mod levels;
 pub mod moves;

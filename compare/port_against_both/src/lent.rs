@@ -56,6 +56,15 @@ impl<T: Element> Lent<T> {
         }
     }
 
+    /// A part of a list to read, with the rest of it around.
+    pub fn part_of(list: &[T], lent: Range<usize>) -> Self {
+        Self {
+            all: list.to_vec(),
+            before: list.to_vec(),
+            lent,
+        }
+    }
+
     /// Room for an output, full of something else.
     pub fn room(random: &mut Random, length: usize) -> Self {
         let old: Vec<T> = (0..length).map(|_| T::any(random)).collect();

@@ -1,10 +1,11 @@
 //! Holds the port against the original and the naive reading on seeded inputs, call
 //! by call, after one run of every call on a thread with little room, of reports at the
-//! same time, and of refused calls with closed outputs. Takes a seed, or
-//! none for the usual one. Ends at the first disagreement.
+//! same time, of refused calls with closed outputs, and of all short headers of a greymap.
+//! Takes a seed, or none for the usual one. Ends at the first disagreement.
 
 mod claims;
 mod counts;
+mod files;
 mod frames;
 mod lent;
 mod levels;
@@ -14,14 +15,16 @@ mod report;
 mod sealed;
 mod search;
 mod threads;
+mod whole;
 
 use std::fmt::Debug;
 use std::process::ExitCode;
 
+use files::{headers, stacks};
 use naive::Refusal;
 use trials::{Call, Outcome, call, same};
 
-const CALLS: [Call; 22] = [
+const CALLS: [Call; 30] = [
     call("from_rgb", 3000, frames::from_rgb),
     call("shrink2 average", 3000, frames::shrink2_average),
     call("shrink2 subsample", 3000, frames::shrink2_subsample),
@@ -44,15 +47,29 @@ const CALLS: [Call; 22] = [
     call("report", 4000, report::report),
     call("threshold tally", frames::TALLIES, frames::tally),
     call("shift stops", search::STOPS, search::stops),
+    call("read_pgm", 400, files::image),
+    call("read_pgm faults", 3000, files::fault),
+    call("read_pgm limits", files::LIMITS, files::limit),
+    call("read_pgm digits", files::MOST_DIGITS, files::digits),
+    call("read_stack", 60 * stacks::MOST_IMAGES, stacks::stack),
+    call("read_stack faults", 40 * stacks::PAIRS, stacks::stack_fault),
+    call(
+        "read_stack of none",
+        4 * stacks::NO_IMAGES,
+        stacks::no_image,
+    ),
+    call("read_stack bracket", 300, stacks::bracket),
 ];
 
 fn main() -> ExitCode {
-    let first = [threads::run, parallel::run, sealed::run];
+    let first = [threads::run, parallel::run, sealed::run, headers::run];
     if let Err(wrong) = first.into_iter().try_for_each(|run| run()) {
         println!("{wrong}");
         return ExitCode::FAILURE;
     }
-    trials::run(&CALLS, "port, naive and original")
+    let headers = headers::COUNT;
+    let who = format!("port, naive and original; besides {headers} short headers, port and naive");
+    trials::run(&CALLS, &who)
 }
 
 /// Agreement of the port, by its status and what it has written, with the naive

@@ -1,16 +1,22 @@
-//! Reports at the same time on separate buffers: each gives what it gives alone.
+//! Files read and reported at the same time on separate buffers: each gives what it gives
+//! alone.
 
 use std::thread;
 
-use port::report::{Report, report};
-use port::{Options, RECORD_BYTES, Rivalry, Scratch, Stack};
+use port::files::read_stack;
+use port::{Options, Rivalry};
 use trials::Outcome;
+use trials::frames::Frames;
 use trials::inputs::Random;
+
+use crate::whole::{Reported, reported};
 
 const SIDE: usize = 64;
 const FRAMES: usize = 3;
 const THREADS: u64 = 4;
 const TIMES: usize = 50;
+/// A file is read so often before it is reported, as a reading is short.
+const READINGS: usize = 100;
 
 const OPTIONS: Options = Options::USUAL;
 const RIVALRY: Rivalry = Rivalry {
@@ -19,64 +25,63 @@ const RIVALRY: Rivalry = Rivalry {
     margin: 20,
 };
 
-/// All that a report writes, its scratch apart, and its status.
-#[derive(PartialEq, Debug)]
-struct Written {
-    status: u32,
-    shifts: [i32; 2 * FRAMES],
-    verdicts: [u8; FRAMES],
-    records: Vec<u8>,
-    crop: [usize; 4],
-    count: usize,
+/// Noise, which the seed gives, in a size that no other seed has.
+fn noise(seed: u64) -> Frames {
+    let (width, height) = (SIDE + seed as usize, SIDE - seed as usize);
+    let mut random = Random::new(seed);
+    let frames = (0..FRAMES).map(|_| random.bytes(width * height)).collect();
+    Frames::of_one_size(frames, (width, height), 1)
 }
 
-/// The report of noise, which the seed gives.
-fn reported(seed: u64) -> Written {
-    let samples = Random::new(seed).bytes(FRAMES * SIDE * SIDE);
-    let stack = Stack {
-        samples: &samples,
-        widths: &[SIDE; FRAMES],
-        heights: &[SIDE; FRAMES],
-        reference: 1,
-    };
-    let need = Scratch::of_step(SIDE, SIDE, OPTIONS.bits);
-    let (mut bytes, mut words) = (vec![0; need.bytes], vec![0; need.words]);
-    let mut written = Written {
-        status: 0,
-        shifts: [0; 2 * FRAMES],
-        verdicts: [0; FRAMES],
-        records: vec![0; (FRAMES - 1) * RIVALRY.most_rivals() * RECORD_BYTES],
-        crop: [0; 4],
-        count: 0,
-    };
-    let lent = Report {
-        shifts: &mut written.shifts,
-        verdicts: &mut written.verdicts,
-        records: &mut written.records,
-        crop: written.crop.each_mut(),
-        count: &mut written.count,
-    };
-    let scratch = (&mut bytes[..], &mut words[..]);
-    written.status = report(stack, &OPTIONS, &RIVALRY, lent, scratch, &mut [0; 5]);
-    written
+fn file_of(frames: &Frames) -> Vec<u8> {
+    let (width, height) = (frames.widths[0], frames.heights[0]);
+    let header = format!("P5\n{width} {height}\n255\n");
+    let images = frames.samples.chunks(width * height);
+    images
+        .flat_map(|samples| [header.as_bytes(), samples].concat())
+        .collect()
+}
+
+/// Reads a file of these frames; says whether they are what is read.
+fn reads(file: &[u8], frames: &Frames) -> bool {
+    let [mut widths, mut heights] = [[0; FRAMES]; 2];
+    let mut samples = vec![0; frames.samples.len()];
+    let mut next = 0;
+    let status = read_stack(file, 0, &mut widths, &mut heights, &mut samples, &mut next);
+    let as_lent = widths[..] == frames.widths && heights[..] == frames.heights;
+    (status, next) == (0, file.len()) && as_lent && samples == frames.samples
+}
+
+fn report_of(frames: &Frames) -> Result<Reported, u32> {
+    reported(frames.stack(), &OPTIONS, &RIVALRY)
 }
 
 /// Says that all agreed.
 pub fn run() -> Outcome {
-    let alone: Vec<Written> = (0..THREADS).map(reported).collect();
-    if alone.iter().any(|w| w.status != 0 || w.count == 0) {
+    let alone: Vec<_> = (0..THREADS).map(|seed| report_of(&noise(seed))).collect();
+    let has_records = |report: &Result<Reported, u32>| matches!(report, Ok(r) if r.count > 0);
+    if !alone.iter().all(has_records) {
         return Err(format!("a report has no record to hold: {alone:?}"));
     }
+    let as_alone = |seed: u64, alone: &_| {
+        let frames = noise(seed);
+        let file = file_of(&frames);
+        let read = || (0..READINGS).all(|_| reads(&file, &frames));
+        (0..TIMES).all(|_| read() && report_of(&frames) == *alone)
+    };
     let same = thread::scope(|scope| {
         let started: Vec<_> = (0..THREADS)
             .zip(&alone)
-            .map(|(seed, alone)| scope.spawn(move || (0..TIMES).all(|_| reported(seed) == *alone)))
+            .map(|(seed, alone)| scope.spawn(move || as_alone(seed, alone)))
             .collect();
         started.into_iter().all(|t| t.join().expect("no panic"))
     });
     if !same {
-        return Err("a report at the same time as others differs".into());
+        return Err("a file or a report at the same time as others differs".into());
     }
-    println!("{THREADS} threads at the same time, {TIMES} reports each, as alone");
+    let readings = TIMES * READINGS;
+    println!(
+        "{THREADS} threads at the same time, {readings} files and {TIMES} reports each, as alone"
+    );
     Ok(())
 }

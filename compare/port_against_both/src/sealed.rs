@@ -6,13 +6,13 @@ use std::ffi::c_void;
 use std::io::Write;
 
 use port::refusals::{
-    COORDINATE_OUTSIDE, HIGHEST_PERCENTILE, NO_PERCENTILE, NO_SUCH_REFERENCE, PADDING_SET,
-    PIXEL_OUTSIDE, RECORD_SPACE_TOO_SHORT, SCRATCH_TOO_SHORT, SIDE_TOO_LONG, SIZES_DIFFER,
-    WRONG_LENGTH,
+    COORDINATE_OUTSIDE, HEADER_MALFORMED, HIGHEST_PERCENTILE, HIGHEST_VALUE_OTHER, MOST_FRAMES,
+    NO_PERCENTILE, NO_SUCH_REFERENCE, PADDING_SET, PIXEL_OUTSIDE, RECORD_SPACE_TOO_SHORT,
+    SAMPLES_MISSING, SCRATCH_TOO_SHORT, SIDE_TOO_LONG, SIZES_DIFFER, TOO_MANY_FRAMES, WRONG_LENGTH,
 };
 use port::report::{Report, report};
 use port::{Bitmap, Frame, Options, Pair, RECORD_BYTES, Rivalry, Shift, Shrink, Stack, Values};
-use port::{counts, frames, levels, moves, search};
+use port::{counts, files, frames, levels, moves, search};
 use trials::Outcome;
 use trials::inputs::TOO_LONG;
 
@@ -85,13 +85,13 @@ pub fn run() -> Outcome {
         height: 1,
     };
     let far = Shift::new(i32::MAX, 0);
-    let crop = || [(); 4].map(|()| sealed.one());
+    let four = || [(); 4].map(|()| sealed.one());
     let scratch = |bytes| (sealed.list(bytes), sealed.list(16));
     let written = |shifts, records| Report {
         shifts: sealed.list(shifts),
         verdicts: sealed.list(2),
         records: sealed.list(records),
-        crop: crop(),
+        crop: four(),
         count: sealed.one(),
     };
     let records = RIVALRY.most_rivals() * RECORD_BYTES;
@@ -105,8 +105,16 @@ pub fn run() -> Outcome {
             values,
         )
     };
+    let read = |file: &[u8]| files::read_pgm(file, 0, four());
+    let read_stack = |file: &[u8], images, samples| {
+        let (sides, samples) = (
+            (sealed.list(images), sealed.list(images)),
+            sealed.list(samples),
+        );
+        files::read_stack(file, 0, sides.0, sides.1, samples, sealed.one())
+    };
 
-    let calls: [(&str, u32, &dyn Fn() -> u32); 25] = [
+    let calls: [(&str, u32, &dyn Fn() -> u32); 36] = [
         ("from_rgb", SIDE_TOO_LONG, &|| {
             frames::from_rgb(&[], TOO_LONG, 0, sealed.list(0))
         }),
@@ -147,7 +155,7 @@ pub fn run() -> Outcome {
             moves::shifted(frame, far, sealed.list(15))
         }),
         ("common_crop", WRONG_LENGTH, &|| {
-            moves::common_crop(&[5], 4, 4, crop())
+            moves::common_crop(&[5], 4, 4, four())
         }),
         ("disagreement", PADDING_SET, &|| {
             let (one, other) = (pair(&[7], 3), pair(&[8], 3));
@@ -203,6 +211,39 @@ pub fn run() -> Outcome {
         ("report", RECORD_SPACE_TOO_SHORT, &|| {
             let scratch = (&mut [0; 8][..], &mut [0; 16][..]);
             reported(0, written(4, 0), scratch, &mut [0; 5])
+        }),
+        ("read_pgm", HEADER_MALFORMED, &|| read(b"P5 1 1 255")),
+        ("read_pgm", SIDE_TOO_LONG, &|| read(b"P5 1 8193 255\n")),
+        ("read_pgm", HIGHEST_VALUE_OTHER, &|| read(b"P5 1 1 254\n0")),
+        ("read_pgm", SAMPLES_MISSING, &|| read(b"P5 1 2 255\n0")),
+        ("read_stack", TOO_MANY_FRAMES, &|| {
+            read_stack(b"P5 1 2 255\n01", MOST_FRAMES + 1, 2)
+        }),
+        ("read_stack", HEADER_MALFORMED, &|| {
+            read_stack(b"P5 1 2 255\n01P", 2, 3)
+        }),
+        ("read_stack", SIDE_TOO_LONG, &|| {
+            read_stack(b"P5 1 2 255\n01P5 8193 0 255\n", 2, 2)
+        }),
+        ("read_stack", HIGHEST_VALUE_OTHER, &|| {
+            read_stack(b"P5 1 2 255\n01P5 1 1 1\n0", 2, 3)
+        }),
+        ("read_stack", SAMPLES_MISSING, &|| {
+            read_stack(b"P5 1 2 255\n01P5 1 2 255\n0", 2, 4)
+        }),
+        ("read_stack", WRONG_LENGTH, &|| {
+            read_stack(b"P5 1 2 255\n01P5 1 2 255\n01", 2, 3)
+        }),
+        ("read_stack", WRONG_LENGTH, &|| {
+            let (sides, samples) = ((sealed.list(1), sealed.list(2)), sealed.list(2));
+            files::read_stack(
+                b"P5 1 2 255\n01",
+                0,
+                sides.0,
+                sides.1,
+                samples,
+                sealed.one(),
+            )
         }),
     ];
     print!("refused without a touch of an output:");

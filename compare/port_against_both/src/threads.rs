@@ -8,10 +8,10 @@ use port::report::{Report, report};
 use port::{
     Bitmap, Frame, Options, Pair, RECORD_BYTES, Rivalry, Scratch, Shift, Stack, words_per_row,
 };
-use port::{counts, frames, levels, moves, search};
-use trials::Outcome;
+use port::{counts, files, frames, levels, moves, search};
 use trials::inputs::Random;
 use trials::recount;
+use trials::{Outcome, same};
 
 /// The bytes of such a thread's stack, what the system takes of them included.
 const ROOM: usize = 98_304;
@@ -67,6 +67,22 @@ fn every_call(side: usize) -> Outcome {
     })?;
     let shift = Shift::new(5, -3);
     on_thread("shifted", || moves::shifted(reference, shift, &mut out))?;
+
+    let header = format!("P5\n{side} {side}\n255\n");
+    let file = [header.as_bytes(), reference.samples].concat();
+    let mut image = [0; 4];
+    on_thread("read_pgm", || files::read_pgm(&file, 0, image.each_mut()))?;
+    let meant = [side, side, header.len(), file.len()];
+    same("read_pgm on a thread", ("port", &image), ("meant", &meant))?;
+    let [mut widths, mut heights, mut next] = [[0]; 3];
+    on_thread("read_stack", || {
+        let (sides, next) = ((&mut widths, &mut heights), &mut next[0]);
+        files::read_stack(&file, 0, sides.0, sides.1, &mut out, next)
+    })?;
+    let laid = ([widths[0], heights[0], next[0]], &out[..]);
+    let meant = ([side, side, file.len()], reference.samples);
+    same("read_stack on a thread", ("port", &laid), ("meant", &meant))?;
+    drop(file);
 
     let [mut x, mut y] = [0; 2];
     on_thread("doubled", || moves::doubled(shift, &mut x, &mut y))?;

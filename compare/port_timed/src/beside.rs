@@ -180,10 +180,10 @@ impl Beside {
             text += &listed(
                 head,
                 such.map(|Both { before, after }| {
-                    let (case, goal) = (after.case_name(), after.goal);
+                    let (case, goal, peer) = (after.case_name(), after.goal, after.peer());
                     let [before, after] = [before, after].map(Timed::ratio);
                     format!(
-                        "{case}, goal {goal}, original to port {before:.2} before, {after:.2} now"
+                        "{case}, goal {goal}, {peer} to port {before:.2} before, {after:.2} now"
                     )
                 }),
             );

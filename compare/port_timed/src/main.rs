@@ -6,12 +6,16 @@
 
 mod beside;
 mod counts;
+#[cfg(c_peer)]
+mod files;
 mod frames;
 mod inputs;
 mod levels;
 mod moves;
 mod opencv;
 mod original;
+#[cfg(c_peer)]
+mod peer;
 mod race;
 mod report;
 mod search;
@@ -24,11 +28,12 @@ use beside::Beside;
 use inputs::{Input, Kind, SIZES, Size};
 use table::{Entry, nanoseconds};
 
-/// The time of a call on an input, in nanoseconds: of the original, then of the port.
+/// The time of a call on an input, in nanoseconds: of the original, or of a C peer where the
+/// original lacks the call, then of the port.
 #[derive(Clone)]
 struct Timed {
     call: String,
-    /// How many times as fast as the original the port is meant to be.
+    /// How many times as fast as the other the port is meant to be.
     goal: f64,
     size: Size,
     kind: String,
@@ -56,6 +61,13 @@ impl Timed {
     /// As far as the two printed decimals tell.
     fn is_below(&self, goal: f64) -> bool {
         below(self.ratio(), goal, 2)
+    }
+
+    /// What the port is timed beside.
+    fn peer(&self) -> &'static str {
+        let call = call_of(&self.call);
+        let is_reader = READERS.iter().any(|(name, ..)| call == Some(*name));
+        if is_reader { "C peer" } else { "original" }
     }
 
     fn is_case(&self, other: &Self) -> bool {
@@ -90,7 +102,7 @@ impl Entry for Timed {
     }
 
     fn heads(&self) -> String {
-        let heads = format!("{:>13}{:>12}{:>8}", "original", "port", "ratio");
+        let heads = format!("{:>13}{:>12}{:>8}", self.peer(), "port", "ratio");
         match self.opencv {
             Some(_) => format!("{heads}{:>12}", "OpenCV"),
             None => heads,
@@ -142,8 +154,30 @@ const CALLS_ON_ONE: [Call; 2] = [
 ];
 const ONE: Size = (640, 480);
 
+/// Calls on files, which the original does not read, on one kind of input.
+#[cfg(c_peer)]
+const READERS: [Call; 2] = [
+    ("read_pgm", files::read_pgm, &[]),
+    ("read_stack", files::read_stack, &[]),
+];
+#[cfg(c_peer)]
+const READ_SIZES: [Size; 3] = files::SIZES;
+/// What the head of the output says of them.
+#[cfg(c_peer)]
+const READERS_SAID: &str = "The original reads no files: read_pgm and read_stack are timed beside a
+peer in C at -O2, which has sscanf for a plain header, a loop over the bytes for one with a
+comment, and sscanf and memcpy for a stack.";
+
+#[cfg(not(c_peer))]
+const READERS: [Call; 0] = [];
+#[cfg(not(c_peer))]
+const READ_SIZES: [Size; 0] = [];
+#[cfg(not(c_peer))]
+const READERS_SAID: &str =
+    "There is no cc for a peer in C, so read_pgm and read_stack are left out.";
+
 fn calls() -> impl Iterator<Item = &'static Call> {
-    CALLS.iter().chain(&CALLS_ON_ONE)
+    CALLS.iter().chain(&CALLS_ON_ONE).chain(&READERS)
 }
 
 /// The call that a table is of: one whose name is the table's or its first word, or that
@@ -208,7 +242,8 @@ take turns, of fewer where a report takes long.
 Both are built for release without overflow checks and called by C's convention, never
 inlined. The original allocates its answer in every call and frees it, the port writes
 to buffers made before. {}
-The ratio is original to port; `<` marks one below the goal.
+{READERS_SAID}
+The ratio is original, or peer, to port; `<` marks one below the goal.
 Packing alone is compute_bitmaps less threshold on the port's side, and the whole of
 compute_bitmaps on the original's. Percentile 50, tolerance 4.
 A pyramid is made for bits 6; the original's begins with a copy of the frame.
@@ -230,7 +265,7 @@ rows, in light that changes by row; flat, 128 throughout. RGB has each sample th
     println!("below the goal: {} of {}", below.count(), all.len());
     for timed in all.iter().filter(|timed| timed.is_below(1.0)) {
         let (case, ratio) = (timed.case_name(), timed.ratio());
-        println!("slower than the original: {case}, ratio {ratio:.2}");
+        println!("slower than the {}: {case}, ratio {ratio:.2}", timed.peer());
     }
 }
 
@@ -269,6 +304,9 @@ fn pass(is_timed: impl Fn(&Call) -> bool) -> Vec<Timed> {
         }
     }
     time(&CALLS_ON_ONE, &Input::new(ONE, Kind::Noise));
+    for size in READ_SIZES {
+        time(&READERS, &Input::new(size, Kind::Flat));
+    }
     all
 }
 

@@ -7,6 +7,7 @@ pub mod frames;
 pub mod inputs;
 pub mod matches;
 pub mod original;
+pub mod pgm;
 pub mod recount;
 mod run;
 pub mod scenes;

@@ -21,14 +21,19 @@ pub trait Case: Clone {
 /// A change to a sound input, and the number of the check that it then fails.
 pub type Break<C> = (u32, fn(&mut C));
 
-/// The lines of inputs that are accepted.
-pub fn accepted<C: Case>(cases: impl IntoIterator<Item = C>) -> Vec<String> {
-    let line = |case: C| {
+/// The lines of inputs, each answered with the status that stands before it.
+pub fn stated<C: Case>(cases: impl IntoIterator<Item = (u32, C)>) -> Vec<String> {
+    let line = |(status, case): (u32, C)| {
         let answered = case.answered();
-        assert_eq!(answered.status, 0, "{}", answered.line);
+        assert_eq!(answered.status, status, "{}", answered.line);
         answered.line
     };
     cases.into_iter().map(line).collect()
+}
+
+/// The lines of inputs that are accepted.
+pub fn accepted<C: Case>(cases: impl IntoIterator<Item = C>) -> Vec<String> {
+    stated(cases.into_iter().map(|case| (0, case)))
 }
 
 /// A sound input under each break, each also with the next check broken, and the
@@ -55,12 +60,7 @@ fn broken<C: Case>(sound: &C, breaks: &[Break<C>]) -> Vec<(u32, C)> {
 
 /// The lines of broken inputs, each refused with the number of its check.
 pub fn refused<C: Case>(sound: &C, breaks: &[Break<C>]) -> Vec<String> {
-    let line = |(check, case): (u32, C)| {
-        let answered = case.answered();
-        assert_eq!(answered.status, check, "{}", answered.line);
-        answered.line
-    };
-    broken(sound, breaks).into_iter().map(line).collect()
+    stated(broken(sound, breaks))
 }
 
 /// The lines of broken inputs, each answered with the empty part.

@@ -7,6 +7,7 @@ use naive::align::{Options, Scratch, Step};
 use naive::difference::Counts;
 use naive::geometry::{Crop, Shift};
 use naive::gray::Frame;
+use naive::pgm::{Image, Laid};
 use naive::refusals::RECORD_SPACE_TOO_SHORT;
 use naive::report::{Record, Report};
 use naive::shrink::Shrink;
@@ -156,6 +157,21 @@ impl Output for Report {
         let line = line.list(&self.shifts).list(&self.verdicts);
         let line = self.crop.write(line);
         line.number(self.records.len()).list(&fields)
+    }
+}
+
+impl Output for Image {
+    fn write(&self, line: Line) -> Line {
+        line.numbers([self.width, self.height, self.start, self.next])
+    }
+}
+
+impl Output for Laid {
+    fn write(&self, line: Line) -> Line {
+        line.list(&self.widths)
+            .list(&self.heights)
+            .list(&self.samples)
+            .number(self.next)
     }
 }
 

@@ -1,6 +1,6 @@
 //! Writes the vectors into `data/` and into the inputs of the programs that replay
 //! them, or, with `--check`, makes them in memory and holds them against the files
-//! there.
+//! there. With `--netpbm` holds greymaps against Netpbm, where that is at hand.
 
 mod bitmaps;
 mod cases;
@@ -8,6 +8,9 @@ mod images;
 mod line;
 mod matches;
 mod neighbours;
+mod netpbm;
+mod pgm;
+mod pgm_stacks;
 mod programs;
 mod reports;
 mod shifts;
@@ -27,7 +30,7 @@ const SEED: u64 = 20_030_602;
 
 /// A file's name and the lines of its call. `crates/try_vectors` knows a call by its
 /// place here, from 1 on.
-type Calls = [(&'static str, fn(&mut Random) -> Vec<String>); 18];
+type Calls = [(&'static str, fn(&mut Random) -> Vec<String>); 20];
 
 const CALLS: Calls = [
     ("from_rgb", images::from_rgb),
@@ -48,6 +51,8 @@ const CALLS: Calls = [
     ("shift", steps::shift),
     ("align_stack", stacks::align_stack),
     ("report", reports::report),
+    ("read_pgm", pgm::read_pgm),
+    ("read_stack", pgm_stacks::read_stack),
 ];
 
 type Files = BTreeMap<PathBuf, Vec<u8>>;
@@ -65,7 +70,7 @@ fn replayed(files: &Files) -> Files {
         }
     }
     let mut inputs = BTreeMap::new();
-    let room = 3 * 512 * 1024;
+    let room = 4 * 512 * 1024;
     insert(
         &mut inputs,
         "try_vectors",
@@ -115,6 +120,29 @@ fn stacksteps_inputs(files: &Files) -> Files {
     inputs
 }
 
+/// The same for the program that aligns a bracket from a file: the frames of `workshop` as
+/// images, each with another kind of header, and behind them as they are.
+fn bracket_input(files: &Files) -> Files {
+    const HEADERS: [&[u8]; 4] = [
+        b"P5\n64 64\n255\n",
+        b"P5\n# CREATOR: GIMP PNM Filter Version 1.1\n64 64\n255\n",
+        b"P5#\r2\n0064#\n64\t000255\r",
+        b"P5 64 64 255 ",
+    ];
+    let workshop = |end| &files[&Path::new("stacksteps/workshop").with_extension(end)][..];
+    let frames = workshop("stdin");
+    let mut input = Vec::new();
+    for (header, frame) in HEADERS.iter().zip(frames.chunks(64 * 64)) {
+        input.extend([header, frame].concat());
+    }
+    input.extend(frames);
+    let alike = b"the frames lent directly have the same shifts\n";
+    let output = [workshop("stdout"), alike].concat();
+    let mut inputs = BTreeMap::new();
+    insert(&mut inputs, "try_pgm", 3 * frames.len(), input, output);
+    inputs
+}
+
 /// All files by their path below the data folder, and the number of cases in them.
 fn made() -> (Files, usize) {
     let mut files = BTreeMap::new();
@@ -135,6 +163,10 @@ fn made() -> (Files, usize) {
         let file = Path::new("stacksteps").join(name);
         files.insert(file.with_extension("stdin"), input);
         files.insert(file.with_extension("stdout"), output.into_bytes());
+    }
+    for (name, bytes) in netpbm::kept() {
+        cases += 1;
+        files.insert(Path::new("netpbm").join(name), bytes.to_vec());
     }
     (files, cases)
 }
@@ -168,8 +200,11 @@ fn run(check: bool) -> io::Result<bool> {
     let (files, cases) = made();
     let mut inputs = replayed(&files);
     inputs.extend(stacksteps_inputs(&files));
+    inputs.extend(bracket_input(&files));
     if !check {
-        fs::create_dir_all(folder.join("stacksteps"))?;
+        for inner in ["stacksteps", "netpbm"] {
+            fs::create_dir_all(folder.join(inner))?;
+        }
         write(&folder, &files)?;
         write(&crates, &inputs)?;
     }
@@ -192,15 +227,17 @@ fn run(check: bool) -> io::Result<bool> {
 
 fn main() -> ExitCode {
     let arguments: Vec<String> = env::args().skip(1).collect();
-    let check = match arguments.as_slice() {
-        [] => false,
-        [flag] if flag == "--check" => true,
+    let arguments: Vec<&str> = arguments.iter().map(String::as_str).collect();
+    let held = match arguments[..] {
+        [] => run(false),
+        ["--check"] => run(true),
+        ["--netpbm"] => netpbm::check(&mut Random::new(SEED), 300),
         _ => {
-            eprintln!("usage: vectors [--check]");
+            eprintln!("usage: vectors [--check | --netpbm]");
             return ExitCode::FAILURE;
         }
     };
-    match run(check) {
+    match held {
         Ok(true) => ExitCode::SUCCESS,
         Ok(false) => ExitCode::FAILURE,
         Err(error) => {

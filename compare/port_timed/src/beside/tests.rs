@@ -218,6 +218,20 @@ fn a_lost_goal_is_timed_again_and_a_won_one_is_not() {
     assert_eq!(again(&[missed], &[missed]), [""; 0]);
 }
 
+#[cfg(c_peer)]
+#[test]
+fn a_reader_is_held_to_its_peer() {
+    let met = "read_pgm~64~KB~comment 64 64 flat 1 1000 1000";
+    let missed = "read_pgm~64~KB~comment 64 64 flat 1 1000 1010";
+    let said = beside(&[met], &[missed]).said();
+    let told = "missed now: read_pgm 64 KB comment 64x64 flat, goal 1, \
+                C peer to port 1.00 before, 0.99 now\n";
+    assert!(said.contains(told), "{said}");
+    assert_eq!(again(&[met], &[missed]), ["read_pgm"]);
+    // The commit before may have no reader.
+    assert_eq!(again(&[], &[missed]), [""; 0]);
+}
+
 #[test]
 fn a_loss_of_packing_alone_has_compute_bitmaps_timed_again() {
     let whole = "compute_bitmaps 64 64 noise 2.5 400 100";

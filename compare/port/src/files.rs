@@ -1,0 +1,59 @@
+//! Netpbm's binary greymaps (P5): one image of a file, and several as a stack.
+
+/// `image` gets width, height, where the samples start in the file, and the place behind
+/// them.
+pub fn read_pgm(file: &[u8], at: usize, image: [&mut usize; 4]) -> u32 {
+    unsafe extern "C" {
+        fn mtb_read_pgm(
+            file: *const u8,
+            file_length: usize,
+            at: usize,
+            width: *mut usize,
+            height: *mut usize,
+            samples: *mut usize,
+            next: *mut usize,
+        ) -> u32;
+    }
+    let [width, height, samples, next] = image;
+    unsafe { mtb_read_pgm(file.as_ptr(), file.len(), at, width, height, samples, next) }
+}
+
+/// As many images, one directly behind another, as `widths` is long. `next` gets the place
+/// behind the last.
+pub fn read_stack(
+    file: &[u8],
+    at: usize,
+    widths: &mut [usize],
+    heights: &mut [usize],
+    samples: &mut [u8],
+    next: &mut usize,
+) -> u32 {
+    unsafe extern "C" {
+        fn mtb_read_stack(
+            file: *const u8,
+            file_length: usize,
+            at: usize,
+            widths: *mut usize,
+            widths_length: usize,
+            heights: *mut usize,
+            heights_length: usize,
+            samples: *mut u8,
+            samples_length: usize,
+            next: *mut usize,
+        ) -> u32;
+    }
+    unsafe {
+        mtb_read_stack(
+            file.as_ptr(),
+            file.len(),
+            at,
+            widths.as_mut_ptr(),
+            widths.len(),
+            heights.as_mut_ptr(),
+            heights.len(),
+            samples.as_mut_ptr(),
+            samples.len(),
+            next,
+        )
+    }
+}

@@ -1,0 +1,82 @@
+/* What a C programmer would write in place of the port's readers of greymaps, to time them beside. */
+
+#include <stddef.h>
+#include <stdint.h>
+#include <stdio.h>
+#include <string.h>
+
+/* What is read of an image: its size, where its samples start, and the place behind them. */
+enum { WIDTH, HEIGHT, SAMPLES, NEXT };
+
+uint32_t peer_scan(const uint8_t *file, size_t image[4]);
+uint32_t peer_scan_bytes(const uint8_t *file, size_t file_length, size_t image[4]);
+uint32_t peer_scan_stack(const uint8_t *file, size_t count, size_t *widths, size_t *heights, uint8_t *samples, size_t *next);
+
+static uint32_t answer(size_t image[4], size_t highest, size_t header) {
+    image[SAMPLES] = header;
+    image[NEXT] = header + image[WIDTH] * image[HEIGHT];
+    return highest == 255 ? 0 : 1;
+}
+
+/* A header without comments. sscanf first looks for the end of its string: where the first sample is 0, it is found at once. */
+uint32_t peer_scan(const uint8_t *file, size_t image[4]) {
+    size_t highest;
+    int length;
+    if (sscanf((const char *)file, "P5 %zu %zu %zu%n", &image[WIDTH], &image[HEIGHT], &highest, &length) != 3) {
+        return 1;
+    }
+    return answer(image, highest, (size_t)length + 1);
+}
+
+/* Images one behind another, as many as there are widths, into lists that are long enough. */
+uint32_t peer_scan_stack(const uint8_t *file, size_t count, size_t *widths, size_t *heights, uint8_t *samples, size_t *next) {
+    const uint8_t *at = file;
+    for (size_t frame = 0; frame < count; frame++) {
+        size_t image[4];
+        if (peer_scan(at, image) != 0) {
+            return 1;
+        }
+        widths[frame] = image[WIDTH];
+        heights[frame] = image[HEIGHT];
+        memcpy(samples, at + image[SAMPLES], image[NEXT] - image[SAMPLES]);
+        samples += image[NEXT] - image[SAMPLES];
+        at += image[NEXT];
+    }
+    *next = (size_t)(at - file);
+    return 0;
+}
+
+/* Past white space and comments. */
+static const uint8_t *past_gap(const uint8_t *at, const uint8_t *end) {
+    while (at < end) {
+        if (*at == '#') {
+            while (at < end && *at != '\n') {
+                at++;
+            }
+        } else if (*at == ' ' || *at == '\t' || *at == '\r' || *at == '\n') {
+            at++;
+        } else {
+            break;
+        }
+    }
+    return at;
+}
+
+/* A header with comments, byte by byte. */
+uint32_t peer_scan_bytes(const uint8_t *file, size_t file_length, size_t image[4]) {
+    const uint8_t *end = file + file_length, *at = file + 2;
+    size_t numbers[3];
+    if (file_length < 2 || file[0] != 'P' || file[1] != '5') {
+        return 1;
+    }
+    for (int which = 0; which < 3; which++) {
+        size_t number = 0;
+        for (at = past_gap(at, end); at < end && *at >= '0' && *at <= '9'; at++) {
+            number = 10 * number + (size_t)(*at - '0');
+        }
+        numbers[which] = number;
+    }
+    image[WIDTH] = numbers[0];
+    image[HEIGHT] = numbers[1];
+    return answer(image, numbers[2], (size_t)(at - file) + 1);
+}
