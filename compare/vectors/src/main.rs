@@ -136,8 +136,8 @@ fn bracket_input(files: &Files) -> Files {
         input.extend([header, frame].concat());
     }
     input.extend(frames);
-    let alike = b"the frames lent directly have the same shifts\n";
-    let output = [workshop("stdout"), alike].concat();
+    let alike = ["shifts", "report"].map(|what| format!("{what} as of the frames lent directly\n"));
+    let output = [workshop("stdout"), alike.concat().as_bytes()].concat();
     let mut inputs = BTreeMap::new();
     insert(&mut inputs, "try_pgm", 3 * frames.len(), input, output);
     inputs

@@ -1,7 +1,10 @@
-// Aligns a bracket from a PGM file, and the same frames lent directly. The input is the file, four images of 64 by 64, and behind it the
-// samples of these frames without headers. Prints the report of the file's frames, and whether both ways have the same shifts.
+// Aligns a bracket from a PGM file and reports on it, and does the same with the frames lent directly. The input is the file, four images
+// of 64 by 64, and behind it the samples of these frames without headers. Prints the report of the file's frames, and whether both ways
+// have the same shifts and the same report.
 use mtb_align::align::Options;
 use mtb_align::error::Outcome;
+use mtb_align::report::ReportAnswer;
+use mtb_align::report::Terms;
 use mtb_align::shrink::Shrink;
 use pgm::stack::StackRead;
 
@@ -21,12 +24,23 @@ const SCRATCH: usize = 2 * (32 * 32 + 16 * 16 + 8 * 8 + 4 * 4 + 2 * 2);
 
 const SCRATCH_WORDS: usize = 4 * SIDE;
 
+// Room for every shift within a reach of 8 of each frame but the reference.
+const RECORDS: usize = 20 * 3 * 17 * 17;
+
 fn options() -> Options {
     Options {
         bits: 6,
         tolerance: 4,
         percentile: 50,
         shrink: Shrink::Average,
+    }
+}
+
+fn terms() -> Terms {
+    Terms {
+        reach: 8,
+        floor: 1,
+        margin: 0,
     }
 }
 
@@ -60,6 +74,14 @@ fn same_shifts(a: &[i32; SHIFTS], b: &[i32; SHIFTS]) -> bool {
     true
 }
 
+fn same_verdicts(a: &[u8; FRAMES], b: &[u8; FRAMES]) -> bool {
+    check::same(a, b)
+}
+
+fn same_records(a: &[u8; RECORDS], b: &[u8; RECORDS]) -> bool {
+    check::same(a, b)
+}
+
 // The frames of the file have the shifts of the frames that are lent.
 fn aligned_alike(widths: &[usize], heights: &[usize], samples: &[u8], lent: &[u8]) -> bool {
     let sides = [SIDE; FRAMES];
@@ -70,10 +92,78 @@ fn aligned_alike(widths: &[usize], heights: &[usize], samples: &[u8], lent: &[u8
         && same_shifts(&of_file, &of_lent)
 }
 
+// There is a report on the frames.
+fn reported(
+    widths: &[usize],
+    heights: &[usize],
+    samples: &[u8],
+    shifts: &mut [i32],
+    verdicts: &mut [u8],
+    records: &mut [u8],
+) -> bool {
+    let mut bytes = [0u8; SCRATCH];
+    let mut words = [0u64; SCRATCH_WORDS];
+    match mtb_align::report::report(
+        widths,
+        heights,
+        samples,
+        0,
+        options(),
+        terms(),
+        shifts,
+        verdicts,
+        records,
+        &mut bytes,
+        &mut words,
+    ) {
+        ReportAnswer::Reported(summary) => summary.records > 0,
+        ReportAnswer::Refused(_) => false,
+    }
+}
+
+// They have its report too: shifts, verdicts and records.
+fn reported_alike(widths: &[usize], heights: &[usize], samples: &[u8], lent: &[u8]) -> bool {
+    let sides = [SIDE; FRAMES];
+    let mut shifts = [0i32; SHIFTS];
+    let mut verdicts = [0u8; FRAMES];
+    let mut records = [0u8; RECORDS];
+    let mut lent_shifts = [0i32; SHIFTS];
+    let mut lent_verdicts = [0u8; FRAMES];
+    let mut lent_records = [0u8; RECORDS];
+    reported(
+        widths,
+        heights,
+        samples,
+        &mut shifts,
+        &mut verdicts,
+        &mut records,
+    )
+        && reported(
+            &sides,
+            &sides,
+            lent,
+            &mut lent_shifts,
+            &mut lent_verdicts,
+            &mut lent_records,
+        )
+        && same_shifts(&shifts, &lent_shifts)
+        && same_verdicts(&verdicts, &lent_verdicts)
+        && same_records(&records, &lent_records)
+}
+
 fn print_report(samples: &[u8]) {
     let mut text = [0u8; 8192];
     let end = steps::put_text(samples, &mut text);
     io::write_all(1, &text[0..end]);
+}
+
+fn say(what: &[u8], alike: bool) {
+    io::write_all(1, what);
+    if alike {
+        io::write_all(1, b" as of the frames lent directly\n");
+        return;
+    }
+    io::write_all(1, b" not as of the frames lent directly\n");
 }
 
 fn run(input: &[u8]) {
@@ -84,12 +174,10 @@ fn run(input: &[u8]) {
         StackRead::Laid(next) => {
             print_report(&samples);
             if next <= input.len() {
-                if aligned_alike(&widths, &heights, &samples, &input[next..]) {
-                    io::write_all(1, b"the frames lent directly have the same shifts\n");
-                    return;
-                }
+                let lent = &input[next..];
+                say(b"shifts", aligned_alike(&widths, &heights, &samples, lent));
+                say(b"report", reported_alike(&widths, &heights, &samples, lent));
             }
-            io::write_all(1, b"the frames lent directly have other shifts\n");
         }
         StackRead::Refused(e) => {
             io::write_all(1, b"refused ");
