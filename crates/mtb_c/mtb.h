@@ -119,7 +119,7 @@ size_t mtb_row(const uint64_t *words, size_t words_length, size_t width, size_t 
 /* Reads the image that begins at byte `at` of a file, in Netpbm's binary greymap format: P5, then width, height and highest value, each a
    number behind white space, one white space byte, and width * height samples. White space is one or more of blank, tab, carriage
    return and line feed; before the highest value a comment, from # through the next line feed, counts as white space, alone too. A
-   number has one or more digits, as many as it likes, zeros in front among them. Sides may be 0.
+   number has one or more digits, any number of them, zeros in front too. Sides may be 0.
    samples is where the samples start, so that file + samples is the frame, in place; next is the byte behind them, where another image
    may begin. Refused: 13; 1; 14; 15. Writes width, height, samples, next. */
 uint32_t mtb_read_pgm(const uint8_t *file, size_t file_length, size_t at,

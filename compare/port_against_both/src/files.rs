@@ -115,13 +115,11 @@ fn past(length: usize) -> [usize; 8] {
 
 /// What damage puts in the place of a byte, beside that byte with one bit changed.
 const TELLING: &[u8; 12] = b" \t\r\n#09P\x0b\x0c\x00\xff";
-/// How many bytes of an image are damaged, in turn: all of most, some of a long one.
-const DAMAGED: usize = 80;
-/// How far around an image it is looked for.
+/// How far around an image it is looked for, and how many of its samples are damaged.
 const NEAR: usize = 40;
 
-/// An image as it was made, at each place near its own and past the file, cut at every byte
-/// of its header and many of its samples, and damaged.
+/// An image as it was made, at each place near its own and past the file, cut at every byte,
+/// and damaged at every byte of its header and its first samples.
 pub fn image(random: &mut Random, _: usize) -> Outcome {
     let (bytes, at, images) = file(random, 1);
     let image = images[0];
@@ -134,11 +132,7 @@ pub fn image(random: &mut Random, _: usize) -> Outcome {
         _ = answer(random, &whole, place)?;
     }
 
-    let some_samples = (image.start..image.next).filter(|end| {
-        let from_ends = (end - image.start).min(image.next - end);
-        from_ends < NEAR
-    });
-    for end in (at..image.start).chain(some_samples).chain([image.next]) {
+    for end in at..=image.next {
         let meant = match end {
             _ if end < image.start => Err(HEADER_MALFORMED),
             _ if end < image.next => Err(SAMPLES_MISSING),
@@ -148,12 +142,7 @@ pub fn image(random: &mut Random, _: usize) -> Outcome {
         answers(random, &Lent::part_of(&bytes, 0..end), at, meant)?;
     }
 
-    let length = image.next.min(image.start + NEAR) - at;
-    for turn in 0..length.min(DAMAGED) {
-        let place = match length {
-            ..=DAMAGED => at + turn,
-            _ => at + random.below(length),
-        };
+    for place in at..image.next.min(image.start + NEAR) {
         let flips = (0..8).map(|bit| bytes[place] ^ (1 << bit));
         for byte in flips.chain(*TELLING) {
             let mut damaged = bytes.clone();
