@@ -121,11 +121,11 @@ size_t mtb_row(const uint64_t *words, size_t words_length, size_t width, size_t 
    return and line feed; before the highest value a comment, from # through the next line feed, counts as white space, alone too. A
    number has one or more digits, any number of them, zeros in front too. Sides may be 0.
    samples is where the samples start, so that file + samples is the frame, in place; next is the byte behind them, where another image
-   may begin. Refused: 13; 1; 14; 15. Writes width, height, samples, next. */
+   may begin, or the file's length where it has no more. Refused: 13; 1; 14; 15. Writes width, height, samples, next. */
 uint32_t mtb_read_pgm(const uint8_t *file, size_t file_length, size_t at,
                       size_t *width, size_t *height, size_t *samples, size_t *next);
 
-/* Reads as many images as there are widths, each directly behind the one before it, the first at byte `at`, and lays them out as
+/* Reads as many images as widths is long, each directly behind the one before it, the first at byte `at`, and lays them out as
    mtb_align_stack and mtb_report take them: widths, heights, and the samples joined. samples has exactly the sum of their width * height,
    which mtb_read_pgm tells image by image. Sizes may differ; a stack of such frames is refused by 4. next is the byte behind the last image,
    or `at` where none is asked for.

@@ -5,7 +5,7 @@ use mathlib.Core.List.{List}
 use Prim.Native.Nat.{ℕ}
 use lib.Seq.{sets}
 use Rattle.definitions.specs.Refusals.{Check, Answer, accepted, refused, answer, after}
-use Rattle.laws.specs.checks.Checks.{accepted-too, refused-too, after-accepted, after-refused}
+use Rattle.laws.specs.checks.Checks.{value-is, accepted-too, refused-too, after-accepted, after-refused}
 use Rattle.mtb_c.specs.Status.{statusOf, valuesAfter}
 
 module _ {A : Type 0} (l : List Check) (v : A) where
@@ -15,10 +15,7 @@ module _ {A : Type 0} (l : List Check) (v : A) where
     status-accepted = sym (ap statusOf (accepted-too v (tt {0}) l (sym e)))
 
     pub stored : {B : Type 0} (part : A → B) (old : B) → part w ≡ after l (part v) old
-    stored part old =
-        let p : answer l v ≡ accepted v = accepted-too v v l (sym e) in
-        let q : w ≡ v = cc in
-        ap part q ∙ sym (after-accepted v l (part v) old (sym e))
+    stored part old = ap part (sym (value-is l (sym e))) ∙ sym (after-accepted v l (part v) old (sym e))
 
     pub values-kept : (old : List ℕ) → old ≡ valuesAfter (answer l (tt {0})) old
     values-kept old = sym (ap (λ (a : Answer (Unit {0})). valuesAfter a old) (accepted-too v (tt {0}) l (sym e)))

@@ -7,7 +7,7 @@ use Prim.Native.Nat.{ℕ, suc, _+_, _-_, _≤_, _<_}
 use native.Mathlib.Omega.{arith}
 use borrow.Author.Tests.{lt-ltb, le-ltb}
 use lib.Dec.{eqb, ltb}
-use lib.ListN.{length, getD, drop, length-drop, drop-of-length-le}
+use lib.ListN.{length, getD, drop, length-drop}
 use Rattle.laws.specs.general.Cases.{lt-or-le, clash, cond-true, cond-false, and-yes, and-no}
 use Rattle.pgm_format.specs.Pgm.{isWhite, afterGap, digitsOf, afterDigits, valueFrom, Reading, missing, found, isMissing, magic, andThen, fieldOf, oneWhite, Sizes, headerOf}
 use Rattle.pgm.specs.declared.header.Number.{Number}

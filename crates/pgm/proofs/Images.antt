@@ -1,47 +1,27 @@
--- An image: the part of a file that it is, the checks of its sizes in order, and that these answer the same of the numbers as they are kept.
+-- An image by its header: the checks answer the same of the numbers as they are kept, and so the answer is the reader's.
 use mathlib.Core.Path.{_≡_, refl, sym, ap, ap₂, subst, _∙_}
-use mathlib.Core.Bool.{Bool, not, _&&_}
 use mathlib.Core.Logic.{⊎-elim}
-use mathlib.Core.List.{List, [], _∷_}
-use Prim.Native.Nat.{ℕ, _+_, _-_, _*_, _≤_, _<_, max}
+use mathlib.Core.List.{List, []}
+use Prim.Native.Nat.{ℕ, _-_, _≤_, _<_, max}
 use native.Mathlib.Omega.{arith}
-use borrow.Author.Tests.{lt-ltb, le-ltb, le-leb, lt-leb, eq-eqb, ne-eqb}
-use lib.Dec.{leb}
-use lib.ListN.{length, take, drop, length-drop}
-use Rattle.definitions.specs.Refusals.{Answer, accepted, refused, answer}
-use Rattle.laws.specs.general.Cases.{lt-or-le, eq-or-ne, cond-true, cond-false, and-yes, and-no}
+use lib.ListN.{length, drop, length-drop}
+use Rattle.definitions.specs.Refusals.{Answer, refused, answer}
+use Rattle.laws.specs.general.Cases.{lt-or-le, eq-or-ne}
 use Rattle.pgm_format.specs.Pgm as format
-use Rattle.pgm_format.specs.Pgm.{partOf, Reading, missing, found, isMissing, sizesIn, restIn, headerOf, Sizes, Image, malformed, sizesChecks, readChecks, imageRead}
+use Rattle.pgm_format.specs.Pgm.{Reading, missing, found, headerOf, Sizes, Image, sizesChecks, imageFrom}
 use Rattle.pgm_format.specs.SizeChecks.{longest-stop, highest-stop}
+use Rattle.pgm_format.specs.Grammar.{read-none, read-some}
 use Rattle.pgm.specs.declared.header.Head.{Head}
 use Rattle.pgm.specs.declared.header.HeaderRead.{HeaderRead}
 use Rattle.pgm.specs.declared.header.HeaderRead.the-variants as headers
 use Rattle.pgm.specs.Inner.{kept, HeaderIs}
-
--- ---- the part of a file between two places
-
-module _ (file : List ℕ) (start next : ℕ) where
-  pub part-crossed : next < start → [] ≡ partOf file start next
-  unfolding partOf
-  part-crossed h = sym (cond-false _ _ (ap (λ (t : Bool). t && leb next (length file)) (lt-leb start next h)))
-
-  pub part-outside : length file < next → [] ≡ partOf file start next
-  unfolding partOf
-  part-outside h = sym (cond-false _ _ (and-no (leb start next) (lt-leb next (length file) h)))
-
-  pub part-inside : start ≤ next → next ≤ length file → take (next - start) (drop start file) ≡ partOf file start next
-  unfolding partOf
-  part-inside h g = sym (cond-true _ _ (and-yes (le-leb start next h) (le-leb next (length file) g)))
 
 -- ---- the numbers as they are kept
 
 abbrev keptSizes : Sizes → Sizes
 keptSizes s = record { width = kept (s .width); height = kept (s .height); highest = kept (s .highest) }
 
--- the image of some sizes whose samples start at a place, the sizes of a head, and the answer
-abbrev pub imageFrom : Sizes → ℕ → Image
-imageFrom s start = record { width = s .width; height = s .height; start = start; next = start + s .width * s .height }
-
+-- the sizes of a head, and the answer of some sizes
 abbrev pub sizesOf : Head → Sizes
 sizesOf h = record { width = h .width; height = h .height; highest = h .highest }
 
@@ -79,24 +59,13 @@ kept-sized s left start = ⊎-elim
 
 -- ---- what is read
 
--- the answer by the header
-abbrev readOf : List ℕ → Reading Sizes → Answer Image
-readOf file r =
-    answer (malformed r ∷ sizesChecks (sizesIn r) (length (restIn r)))
-    (imageFrom (sizesIn r) (length file - length (restIn r)))
-
-read-of : (file : List ℕ) (at : ℕ) → format.read file at ≡ readOf file (headerOf (drop at file))
-unfolding format.read readChecks imageRead
-read-of file at = refl
-
 module _ (file : List ℕ) (at : ℕ) {h : HeaderRead} (p : HeaderIs file (headerOf (drop at file)) h) where
   pub read-missing : h ≡ headers.Missing → refused 13 [] ≡ format.read file at
-  unfolding malformed isMissing answer
-  read-missing e = on (headerOf (drop at file)) (subst (HeaderIs file (headerOf (drop at file))) e p) ∙ sym (read-of file at)
+  read-missing e = on (headerOf (drop at file)) refl (subst (HeaderIs file (headerOf (drop at file))) e p)
     where
-      on : (r : Reading Sizes) → HeaderIs file r headers.Missing → refused 13 [] ≡ readOf file r
-      on missing q = refl
-      on (found s l) q = absurd q
+      on : (r : Reading Sizes) → headerOf (drop at file) ≡ r → HeaderIs file r headers.Missing → refused 13 [] ≡ format.read file at
+      on missing i q = sym (read-none file at i)
+      on (found s l) i q = absurd q
 
   module _ {head : Head} (e : h ≡ headers.Found head) where
     here : HeaderIs file (headerOf (drop at file)) (headers.Found head)
@@ -110,14 +79,14 @@ module _ (file : List ℕ) (at : ℕ) {h : HeaderRead} (p : HeaderIs file (heade
         on (found s l) q = q .3 .inside
 
     pub read-found : sized (sizesOf head) (length file - head .start) (head .start) ≡ format.read file at
-    unfolding malformed isMissing sizesIn restIn answer
-    read-found = on (headerOf (drop at file)) here ∙ sym (read-of file at)
+    read-found = on (headerOf (drop at file)) refl here
       where
-        on : (r : Reading Sizes) → HeaderIs file r (headers.Found head)
-            → sized (sizesOf head) (length file - head .start) (head .start) ≡ readOf file r
-        on missing q = absurd q
-        on (found s l) q =
+        on : (r : Reading Sizes) → headerOf (drop at file) ≡ r → HeaderIs file r (headers.Found head)
+            → sized (sizesOf head) (length file - head .start) (head .start) ≡ format.read file at
+        on missing i q = absurd q
+        on (found s l) i q =
             let n : length file - head .start ≡ length l = sym (length-drop (head .start) file) ∙ ap length (q .3 .left) in
             ap (λ (k : Sizes). sized k (length file - head .start) (head .start)) (same-sizes (q .0) (q .1) (q .2))
             ∙ kept-sized s (length file - head .start) (head .start)
             ∙ ap₂ (λ (m i : ℕ). sized s m i) n (omega (arith, n, q .3 .inside))
+            ∙ sym (read-some file at i)

@@ -45,7 +45,7 @@ pub digits-length : (l : List ℕ) → length (digitsOf l) + length (afterDigits
 digits-length l = sym (ap length (digits-front l) ∙ length-append (digitsOf l) (afterDigits l))
 
 -- The number is read up to i, where `value` is kept of it.
-pub record Reading (file : List ℕ) (at value i : ℕ) : Type 0 where
+pub record SoFar (file : List ℕ) (at value i : ℕ) : Type 0 where
   pub left : Left afterDigits file at i
   pub few : value ≤ 8193
   pub whole : kept (valueFrom value (digitsOf (drop i file))) ≡ kept (valueFrom 0 (digitsOf (drop at file)))
@@ -54,10 +54,10 @@ pub record Reading (file : List ℕ) (at value i : ℕ) : Type 0 where
 abbrev pub NumberAt : List ℕ → ℕ → ℕ → ℕ → Type 0
 NumberAt file at value next = (value ≡ kept (valueFrom 0 (digitsOf (drop at file)))) × From file (afterDigits (drop at file)) next
 
-pub number-none : {file : List ℕ} {at : ℕ} → at ≤ length file → Reading file at 0 at
+pub number-none : {file : List ℕ} {at : ℕ} → at ≤ length file → SoFar file at 0 at
 number-none h = record { left = left-none h; few = omega arith; whole = refl }
 
-module _ {file : List ℕ} {at value i : ℕ} (r : Reading file at value i) where
+module _ {file : List ℕ} {at value i : ℕ} (r : SoFar file at value i) where
   -- no digit is left
   over : digitsOf (drop i file) ≡ [] → From file (afterDigits (drop at file)) i → NumberAt file at value i
   unfolding valueFrom
@@ -71,7 +71,7 @@ module _ {file : List ℕ} {at value i : ℕ} (r : Reading file at value i) wher
   number-end h = over (ap digitsOf (drop-of-length-le file h)) (left-end (r .left) h refl)
 
   module _ (h : i < length file) where
-    pub number-more : isDigit (getD file i 0) ≡ true → {value′ : ℕ} → value′ ≡ kept (10 * value + (getD file i 0 - 48)) → Reading file at value′ (i + 1)
+    pub number-more : isDigit (getD file i 0) ≡ true → {value′ : ℕ} → value′ ≡ kept (10 * value + (getD file i 0 - 48)) → SoFar file at value′ (i + 1)
     unfolding valueFrom
     number-more e {value′} p =
         let b = getD file i 0 in

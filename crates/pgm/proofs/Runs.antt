@@ -7,7 +7,7 @@ use native.Mathlib.Omega.{arith}
 use lib.ListN.{length, length-append}
 use borrow.Author.Tests.{lt-ltb, le-ltb}
 use Rattle.definitions.specs.Refusals.{Check, Answer, accepted, refused, answer}
-use Rattle.laws.specs.checks.Checks.{same-value, stop, skip, done, accepted-too, refused-too, pass-all, stop-all}
+use Rattle.laws.specs.checks.Checks.{value-is, stop, skip, done, accepted-too, refused-too, pass-all, stop-all}
 use Rattle.pgm_format.specs.Pgm.{Image, readChecks, imageRead, samplesOf, read}
 use Rattle.pgm_format.specs.Stack.{imagesFrom, nextFrom, placePast, imagesChecks, joinedSamples}
 use Rattle.pgm_format.specs.Runs.{passes-read, samples-long}
@@ -16,7 +16,7 @@ use Rattle.pgm.specs.Inner.{Extent}
 -- an accepted image is the one that is read there
 pub image-is : (file : List ℕ) (at : ℕ) {i : Image} → accepted i ≡ read file at → i ≡ imageRead file at
 unfolding read
-image-is file at e = same-value (e ∙ accepted-too _ _ (readChecks file at) (sym e))
+image-is file at e = sym (value-is (readChecks file at) (sym e))
 
 -- and has no more samples than its sides allow
 pub size-is : (file : List ℕ) (at : ℕ) {i : Image} → accepted i ≡ read file at → (i .start ≤ i .next) × (i .next - i .start ≤ 67108864)

@@ -1,12 +1,13 @@
--- The answers of the call that lays out a stack, check by check, and its lists after it.
+-- The answers of the call that lays out a stack, and its lists after it.
 use mathlib.Core.Path.{_≡_, sym, ap, _∙_}
-use mathlib.Core.List.{List, [], _∷_, _++_}
+use mathlib.Core.List.{List, [], _∷_}
+use mathlib.Core.Logic.{inl, inr}
 use Prim.Native.Nat.{ℕ, _<_, _≤_}
 use lib.ListN.{length}
 use Rattle.definitions.specs.Refusals.{Check, Answer, accepted, refused, answer, after, wrongLength}
-use Rattle.laws.specs.checks.Checks.{same-value, done, length-stop, length-skip, accepted-too, refused-too, stop-all, skip-all, after-accepted, after-refused}
-use Rattle.laws.specs.checks.ChecksStack.{frames-stop, frames-skip}
+use Rattle.laws.specs.checks.Checks.{value-is, done, length-stop, length-skip, accepted-too, refused-too, after-accepted, after-refused}
 use Rattle.pgm_format.specs.Stack.{imagesFrom, nextFrom, imagesChecks, widthsOf, heightsOf, joinedSamples, readStackChecks, readStack}
+use Rattle.pgm_format.specs.Runs.{StackRefusal, frames-over, lists-unequal, images-refused, images-passed, stack-reads}
 use Rattle.pgm.specs.Inner.{Extent}
 use Rattle.pgm.proofs.Runs.{extent}
 
@@ -14,7 +15,7 @@ use Rattle.pgm.proofs.Runs.{extent}
 
 module _ (file : List ℕ) (at n : ℕ) {x : Extent} (a : accepted x ≡ answer (imagesChecks file at n) (extent file at n)) where
   extent-is : x ≡ extent file at n
-  extent-is = same-value (a ∙ accepted-too _ _ (imagesChecks file at n) (sym a))
+  extent-is = sym (value-is (imagesChecks file at n) (sym a))
 
   pub samples-are : x .samples ≡ length (joinedSamples file (imagesFrom file at n))
   samples-are = ap (λ (y : Extent). y .samples) extent-is
@@ -26,42 +27,34 @@ module _ (file : List ℕ) (at n : ℕ) {x : Extent} (a : accepted x ≡ answer 
 
 -- the first three checks pass
 abbrev pub ListsFit : ℕ → ℕ → Type 0
-ListsFit w h = (w ≤ 16) × (h ≤ 16) × (h ≡ w)
+ListsFit w h = (w ≤ 16) × (h ≡ w)
 
 module _ (file : List ℕ) (at w h s : ℕ) where
-  pub widths-many : 16 < w → refused 6 [] ≡ readStack file at w h s
-  unfolding readStack readStackChecks
-  widths-many p = frames-stop _ w _ p
+  refusal : {n : ℕ} {v : List ℕ} → StackRefusal file at w h s n v → refused n v ≡ readStack file at w h s
+  refusal {n} {v} p = sym (stack-reads file at w h s .refusal n v .1 p)
 
-  pub heights-many : w ≤ 16 → 16 < h → refused 6 [] ≡ readStack file at w h s
-  unfolding readStack readStackChecks
-  heights-many q p = frames-skip _ w _ q (frames-stop _ h _ p)
+  pub widths-many : 16 < w → refused 6 [] ≡ readStack file at w h s
+  widths-many p = refusal (frames-over (inl p))
+
+  pub heights-many : 16 < h → refused 6 [] ≡ readStack file at w h s
+  heights-many p = refusal (frames-over (inr p))
 
   pub lists-differ : w ≤ 16 → h ≤ 16 → (h ≡ w → ⊥) → refused 2 [] ≡ readStack file at w h s
-  unfolding readStack readStackChecks
-  lists-differ q r p = frames-skip _ w _ q (frames-skip _ h _ r (length-stop _ h w _ p))
+  lists-differ q r p = refusal (lists-unequal q r p)
 
-  -- the samples' length, the last check
-  abbrev last : List Check
-  last = wrongLength s (length (joinedSamples file (imagesFrom file at w))) ∷ []
+  pub run-refused : {n : ℕ} {v : List ℕ} → ListsFit w h → refused n v ≡ answer (imagesChecks file at w) (extent file at w) → refused n v ≡ readStack file at w h s
+  run-refused p a = sym (images-refused file at w h s (p .0) (p .1) (refused-too _ (nextFrom file at w) (imagesChecks file at w) (sym a)))
 
-  past-lists : {r : Answer ℕ} → ListsFit w h → r ≡ answer (imagesChecks file at w ++ last) (nextFrom file at w) → r ≡ readStack file at w h s
-  unfolding readStack readStackChecks
-  past-lists p q = frames-skip _ w _ (p .0) (frames-skip _ h _ (p .1) (length-skip _ h w _ (p .2) q))
+  module _ {x : Extent} (a : accepted x ≡ answer (imagesChecks file at w) (extent file at w)) (p : ListsFit w h) where
+    past-images : {r : Answer ℕ}
+        → r ≡ answer (wrongLength s (length (joinedSamples file (imagesFrom file at w))) ∷ []) (nextFrom file at w) → r ≡ readStack file at w h s
+    past-images q = q ∙ images-passed file at w h s (p .0) (p .1) (accepted-too _ _ (imagesChecks file at w) (sym a))
 
-  pub images-refused : {n : ℕ} {v : List ℕ} → ListsFit w h → refused n v ≡ answer (imagesChecks file at w) (extent file at w) → refused n v ≡ readStack file at w h s
-  images-refused p a = past-lists p (stop-all _ (imagesChecks file at w) last (refused-too _ (nextFrom file at w) (imagesChecks file at w) (sym a)))
+    pub samples-wrong : (s ≡ x .samples → ⊥) → refused 2 [] ≡ readStack file at w h s
+    samples-wrong q = past-images (length-stop _ s _ [] (λ b. q (b ∙ sym (samples-are file at w a))))
 
-  module _ {x : Extent} (a : accepted x ≡ answer (imagesChecks file at w) (extent file at w)) where
-    past-images : {r : Answer ℕ} → ListsFit w h → r ≡ answer last (nextFrom file at w) → r ≡ readStack file at w h s
-    past-images p q = past-lists p (skip-all _ (imagesChecks file at w) last (accepted-too _ _ (imagesChecks file at w) (sym a)) q)
-
-    pub samples-wrong : ListsFit w h → (s ≡ x .samples → ⊥) → refused 2 [] ≡ readStack file at w h s
-    samples-wrong p q = past-images p (length-stop _ s _ [] (λ b. q (b ∙ sym (samples-are file at w a))))
-
-    pub laid-out : ListsFit w h → s ≡ x .samples → accepted (x .next) ≡ readStack file at w h s
-    laid-out p q =
-        ap (λ (y : Extent). accepted (y .next)) (extent-is file at w a) ∙ past-images p (length-skip _ s _ [] (q ∙ samples-are file at w a) (done _))
+    pub laid-out : s ≡ x .samples → accepted (x .next) ≡ readStack file at w h s
+    laid-out q = ap (λ (y : Extent). accepted (y .next)) (extent-is file at w a) ∙ past-images (length-skip _ s _ [] (q ∙ samples-are file at w a) (done _))
 
 -- ---- the lists after the call
 

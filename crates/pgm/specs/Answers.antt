@@ -1,6 +1,6 @@
 -- The code's answers in document 02's terms: each refusal's number, and each answer as accepted or refused.
 use Prim.Native.Nat.{ℕ}
-use mathlib.Core.List.{List, []}
+use mathlib.Core.List.{[]}
 use Rattle.definitions.specs.Refusals.{Answer, accepted, refused}
 use Rattle.pgm_format.specs.Pgm as format
 use Rattle.pgm.specs.declared.PgmError.{PgmError}

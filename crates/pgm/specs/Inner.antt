@@ -5,7 +5,7 @@ use mathlib.Core.Bool.{cond}
 use mathlib.Core.List.{List, [], _∷_}
 use lib.Dec.{eqb}
 use lib.ListN.{length, drop}
-use Rattle.definitions.specs.Refusals.{Answer, accepted, refused}
+use Rattle.definitions.specs.Refusals.{Answer, accepted}
 use Rattle.pgm_format.specs.Pgm.{isWhite, Reading, missing, found, Sizes}
 use Rattle.pgm.specs.Answers.{refusal}
 use Rattle.pgm.specs.declared.header.FieldRead.{FieldRead}

@@ -6,7 +6,7 @@ use header::Head;
 use header::HeaderRead;
 use header::read_header;
 ghost use mathlib.Core.Path.{_≡_};
-ghost use Prim.Native.Nat.{_+_, _-_, _*_, _≤_, max};
+ghost use Prim.Native.Nat.{_-_, _≤_, max};
 ghost use Rattle.definitions.specs.Refusals.{answer};
 ghost use Rattle.pgm_format.specs.Pgm as format;
 ghost use Rattle.pgm.specs.Answers.{numberOf, pgmAnswer};
@@ -86,9 +86,8 @@ fn larger(a: usize, b: usize) -> usize
 fn image_of(head: Head, length: usize) -> PgmAnswer
     requires { ⌜ head .start ≤ length ⌝ }
     ensures { λ r. ⌜
-        pgmAnswer r ≡ answer
-        (format.sizesChecks (record { width = head .width; height = head .height; highest = head .highest }) (length - head .start))
-        (record { width = head .width; height = head .height; start = head .start; next = head .start + head .width * head .height })
+        (let sizes : format.Sizes = record { width = head .width; height = head .height; highest = head .highest } in
+        pgmAnswer r ≡ answer (format.sizesChecks sizes (length - head .start)) (format.imageFrom sizes (head .start)))
         ⌝ }
 {
     let highest = head.highest;

@@ -1,7 +1,7 @@
 -- Files of a few bytes, and what is read of them, computed by the definitions.
 use Prim.Native.Nat.{ℕ}
 use mathlib.Core.Path.{_≡_, refl}
-use mathlib.Core.List.{List, [], _∷_, _++_}
+use mathlib.Core.List.{List, [], _∷_}
 use Rattle.definitions.specs.Refusals.{answer, accepted, refused, sideOver, framesOver, wrongLength}
 use Rattle.pgm_format.specs.Pgm.{isWhite, isDigit, valueFrom, afterGap, digitsOf, afterDigits, fieldOf, andThen, oneWhite, magic, headerOf, isMissing, sizesIn, restIn}
 use Rattle.pgm_format.specs.Pgm.{malformed, otherHighest, samplesShort, sizesChecks, readChecks, imageRead, read, partOf, samplesOf}

@@ -1,17 +1,17 @@
 -- The grammar's parts and the reader's functions, one by one: what stands at the front of a list is read whole, whatever follows, and what
 -- is read is a part of the grammar.
-use Prim.Native.Nat.{ℕ, zero, suc, _+_, _<_, _≤_, suc-le-suc, zero-le}
+use Prim.Native.Nat.{ℕ, zero, suc, _+_, _<_, _≤_, suc-le-suc}
 use native.Mathlib.Nat.{zero-lt-suc, not-suc-le-zero, le-of-suc-le-suc}
 use native.Mathlib.Omega.{arith}
-use mathlib.Core.Path.{_≡_, refl, sym, ap, subst, _∙_}
+use mathlib.Core.Path.{_≡_, refl, sym, ap, _∙_}
 use mathlib.Core.Bool.{Bool, true, false, cond, not, _&&_, _||_}
 use mathlib.Core.List.{List, [], _∷_, _++_, append-assoc}
 use lib.Dec.{ltb, leb, eqb}
 use lib.ListN.{length, getD, length-append}
-use borrow.Author.Tests.{leb-true, leb-false, eqb-true, eqb-false, ltb-true, ne-eqb, lt-ltb}
+use borrow.Author.Tests.{leb-true, eqb-true, ltb-true, ne-eqb, lt-ltb}
 use Rattle.laws.specs.general.Cases.{clash}
-use Rattle.pgm_format.specs.Pgm.{isWhite, isDigit, Gap, none, white, comment, valueFrom, Numeral, Field}
-use Rattle.pgm_format.specs.Pgm.{afterGap, digitsOf, afterDigits, Reading, missing, found, fieldOf, oneWhite}
+use Rattle.pgm_format.specs.Pgm.{isWhite, isDigit, Gap, none, white, comment, valueFrom, Field}
+use Rattle.pgm_format.specs.Pgm.{afterGap, digitsOf, afterDigits, Reading, missing, found, fieldOf}
 
 -- ---- bytes
 

@@ -2,55 +2,42 @@
 use Prim.Native.Nat.{ℕ, _+_, _-_, _*_, _<_, _≤_, max}
 use native.Mathlib.Omega.{arith}
 use mathlib.Core.Path.{_≡_, refl, sym, ap, subst, _∙_}
-use mathlib.Core.Bool.{Bool, cond, _&&_}
 use mathlib.Core.List.{List, [], _∷_, _++_, append-assoc}
 use mathlib.Core.Logic.{_↔_, _⊎_, inl, inr, ⊎-elim}
-use lib.Dec.{leb}
 use lib.ListN.{length, take, drop, length-append, take-append-drop}
 use lib.Seq.{take-at, drop-at, length-take-le}
-use borrow.Author.Tests.{le-leb}
 use Rattle.definitions.specs.Refusals.{Answer, accepted, refused, answer}
 use Rattle.laws.specs.checks.Checks.{stop, skip}
 use Rattle.laws.specs.general.Cases.{lt-or-le, eq-or-ne}
 use Rattle.pgm_format.specs.Pgm.{Header, HeaderAt, Image, ImageAt, Reading, missing, found, Sizes, headerOf, isMissing, sizesIn, restIn}
-use Rattle.pgm_format.specs.Pgm.{malformed, sizesChecks, readChecks, imageRead, read, partOf, samplesOf}
+use Rattle.pgm_format.specs.Pgm.{malformed, sizesChecks, readChecks, imageFrom, imageRead, read, samplesOf}
 use Rattle.pgm_format.specs.Fronts.{found-or-missing, same-found}
+use Rattle.pgm_format.specs.Parts.{part-inside}
 use Rattle.pgm_format.specs.SizeChecks.{longest-stop, highest-stop, short-stop, all-pass}
 use Rattle.pgm_format.specs.Headers.{sizes, at-read, at-front, at-long}
 
--- a side is over 8,192 where the longest is
+-- the longest side is over 8,192 where one is
 longest-over : {w h : ℕ} → (8192 < w) ⊎ (8192 < h) → 8192 < max w h
 longest-over {w} {h} = ⊎-elim (λ (p : 8192 < w). omega arith) (λ (p : 8192 < h). omega arith)
 
 -- ---- the reader's answer by what it finds
 
 module _ (file : List ℕ) (at : ℕ) where
-  -- the answer by the header that is read
-  imageBy : Reading Sizes → Image
-  imageBy r =
-      let s = sizesIn r in
-      let start = length file - length (restIn r) in
-      record { width = s .width; height = s .height; start = start; next = start + s .width * s .height }
-
-  answerBy : Reading Sizes → Answer Image
-  answerBy r = answer (malformed r ∷ sizesChecks (sizesIn r) (length (restIn r))) (imageBy r)
+  abbrev answerBy : Reading Sizes → Answer Image
+  answerBy r = answer (malformed r ∷ sizesChecks (sizesIn r) (length (restIn r))) (imageFrom (sizesIn r) (length file - length (restIn r)))
 
   read-by : {r : Reading Sizes} → headerOf (drop at file) ≡ r → read file at ≡ answerBy r
-  unfolding read readChecks imageRead answerBy imageBy
+  unfolding read readChecks imageRead
   read-by e = ap answerBy e
 
-  by-missing : answerBy missing ≡ refused 13 []
-  unfolding answerBy malformed isMissing
-  by-missing = sym (stop (imageBy missing) (malformed missing) _ refl)
+  pub read-none : headerOf (drop at file) ≡ missing → read file at ≡ refused 13 []
+  unfolding malformed isMissing
+  read-none e = read-by e ∙ sym (stop _ (malformed missing) _ refl)
 
-  foundImage : Sizes → List ℕ → Image
-  foundImage s rest =
-      let start = length file - length rest in
-      record { width = s .width; height = s .height; start = start; next = start + s .width * s .height }
-
-  by-found : (s : Sizes) (rest : List ℕ) → answerBy (found s rest) ≡ answer (sizesChecks s (length rest)) (foundImage s rest)
-  unfolding answerBy imageBy malformed isMissing sizesIn restIn foundImage
-  by-found s rest = sym (skip (foundImage s rest) (malformed (found s rest)) (sizesChecks s (length rest)) refl refl)
+  pub read-some : {s : Sizes} {rest : List ℕ} → headerOf (drop at file) ≡ found s rest
+      → read file at ≡ answer (sizesChecks s (length rest)) (imageFrom s (length file - length rest))
+  unfolding malformed isMissing sizesIn restIn
+  read-some {s} {rest} e = read-by e ∙ sym (skip _ (malformed (found s rest)) (sizesChecks s (length rest)) refl refl)
 
   -- ---- what each answer means
 
@@ -91,12 +78,12 @@ module _ (file : List ℕ) (at : ℕ) where
   no-header-refused n = on (headerOf (drop at file)) refl
     where
       on : (r : Reading Sizes) → headerOf (drop at file) ≡ r → read file at ≡ refused 13 []
-      on missing e = read-by e ∙ by-missing
+      on missing e = read-none e
       on (found s rest) e = absurd (n (s .width) (s .height) (s .highest) rest (at-front file at e))
 
   answered : {w h top : ℕ} {rest : List ℕ} → HeaderAt file at w h top rest
-      → read file at ≡ answer (sizesChecks (sizes w h top) (length rest)) (foundImage (sizes w h top) rest)
-  answered {w} {h} {top} {rest} a = read-by (at-read file at a) ∙ by-found (sizes w h top) rest
+      → read file at ≡ answer (sizesChecks (sizes w h top) (length rest)) (imageFrom (sizes w h top) (length file - length rest))
+  answered a = read-some (at-read file at a)
 
   side-refused : SideOver → read file at ≡ refused 1 []
   side-refused o =
@@ -110,7 +97,6 @@ module _ (file : List ℕ) (at : ℕ) where
   too-short-refused o = answered (o .header) ∙ sym (short-stop _ (sizes (o .width) (o .height) 255) (length (o .rest)) (omega (arith, o .narrow, o .low)) refl (o .short))
 
   image-accepted : (i : Image) → ImageAt file at i → read file at ≡ accepted i
-  unfolding foundImage
   image-accepted i a =
       answered (a .header)
       ∙ sym
@@ -131,8 +117,7 @@ module _ (file : List ℕ) (at : ℕ) where
   Means (accepted i) = ImageAt file at i
   Means (refused n v) = (v ≡ []) × (((n ≡ 13) × NoHeader) ⊎ (((n ≡ 1) × SideOver) ⊎ (((n ≡ 14) × OtherHighest) ⊎ ((n ≡ 15) × TooShort))))
 
-  found-means : (s : Sizes) (rest : List ℕ) → HeaderAt file at (s .width) (s .height) (s .highest) rest → Means (answer (sizesChecks s (length rest)) (foundImage s rest))
-  unfolding foundImage
+  found-means : (s : Sizes) (rest : List ℕ) → HeaderAt file at (s .width) (s .height) (s .highest) rest → Means (answer (sizesChecks s (length rest)) (imageFrom s (length file - length rest)))
   found-means s rest a = ⊎-elim
       (λ (w : 8192 < s .width). over (inl w))
       (λ (w : s .width ≤ 8192). ⊎-elim
@@ -149,7 +134,7 @@ module _ (file : List ℕ) (at : ℕ) where
       (lt-or-le 8192 (s .height)))
       (lt-or-le 8192 (s .width))
     where
-      over : (8192 < s .width) ⊎ (8192 < s .height) → Means (answer (sizesChecks s (length rest)) (foundImage s rest))
+      over : (8192 < s .width) ⊎ (8192 < s .height) → Means (answer (sizesChecks s (length rest)) (imageFrom s (length file - length rest)))
       over o =
           subst Means (longest-stop _ s (length rest) (longest-over o))
           (refl, inr (inl (refl, record { width = s .width; height = s .height; highest = s .highest; rest = rest; header = a; over = o })))
@@ -163,12 +148,12 @@ module _ (file : List ℕ) (at : ℕ) where
         header = subst (λ (top : ℕ). Header (a .head) (s .width) (s .height) top) t (a .header);
       }
 
-      short : s .width ≤ 8192 → s .height ≤ 8192 → s .highest ≡ 255 → length rest < s .width * s .height → Means (answer (sizesChecks s (length rest)) (foundImage s rest))
+      short : s .width ≤ 8192 → s .height ≤ 8192 → s .highest ≡ 255 → length rest < s .width * s .height → Means (answer (sizesChecks s (length rest)) (imageFrom s (length file - length rest)))
       short w h t k =
           subst Means (short-stop _ s (length rest) (omega (arith, w, h)) t k)
           (refl, inr (inr (inr (refl, record { width = s .width; height = s .height; rest = rest; header = header t rest refl; narrow = w; low = h; short = k }))))
 
-      enough : s .width ≤ 8192 → s .height ≤ 8192 → s .highest ≡ 255 → s .width * s .height ≤ length rest → Means (answer (sizesChecks s (length rest)) (foundImage s rest))
+      enough : s .width ≤ 8192 → s .height ≤ 8192 → s .highest ≡ 255 → s .width * s .height ≤ length rest → Means (answer (sizesChecks s (length rest)) (imageFrom s (length file - length rest)))
       enough w h t k =
           let n = s .width * s .height in
           let counted : length (take n rest) ≡ n = length-take-le n rest k in
@@ -188,8 +173,8 @@ module _ (file : List ℕ) (at : ℕ) where
     where
       on : (r : Reading Sizes) → headerOf (drop at file) ≡ r → Means (read file at)
       on missing e =
-          subst Means (sym (read-by e ∙ by-missing)) (refl, inl (refl, λ w h top rest a. found-or-missing (sym e ∙ at-read file at a)))
-      on (found s rest) e = subst Means (sym (read-by e ∙ by-found s rest)) (found-means s rest (at-front file at e))
+          subst Means (sym (read-none e)) (refl, inl (refl, λ w h top rest a. found-or-missing (sym e ∙ at-read file at a)))
+      on (found s rest) e = subst Means (sym (read-some e)) (found-means s rest (at-front file at e))
 
   refused-means : {n : ℕ} {v : List ℕ} → read file at ≡ refused n v → Means (refused n v)
   refused-means e = subst Means e means
@@ -217,11 +202,11 @@ module _ (file : List ℕ) (at : ℕ) where
     pub only : {n : ℕ} {v : List ℕ} → read file at ≡ refused n v → (v ≡ []) × ((n ≡ 13) ⊎ ((n ≡ 1) ⊎ ((n ≡ 14) ⊎ (n ≡ 15))))
 
   image-samples : (i : Image) (a : ImageAt file at i) → samplesOf file i ≡ a .samples
-  unfolding samplesOf partOf
+  unfolding samplesOf
   image-samples i a =
-      ap (λ (t : Bool). cond (t && leb (i .next) (length file)) (take (i .next - i .start) (drop (i .start) file)) []) (le-leb (i .start) (i .next) (omega (arith, a .ends)))
-      ∙ ap (λ (t : Bool). cond t (take (i .next - i .start) (drop (i .start) file)) [])
-      (le-leb (i .next) (length file) (omega (arith, a .ends, a .starts, at-long (a .header), length-append (a .samples) (a .behind))))
+      sym
+      (part-inside file (i .start) (i .next) (omega (arith, a .ends))
+      (omega (arith, a .ends, a .starts, at-long (a .header), length-append (a .samples) (a .behind))))
       ∙ ap (take (i .next - i .start)) (ap (drop (i .start)) parts ∙ drop-at front (a .samples ++ a .behind) (i .start) long)
       ∙ take-at (a .samples) (a .behind) (i .next - i .start) (omega (arith, a .ends))
     where

@@ -4,6 +4,7 @@ pub mod Stack  -- images one behind another, and the stack that is laid out of t
 pub mod Examples  -- files of a few bytes, computed
 pub mod Fronts  -- gaps, numbers and fields at the front of a list: each is read whole, and what is read is one
 pub mod Headers  -- the same of a header, and of one at a place of a file
+pub mod Parts  -- the part of a file between two places
 pub mod SizeChecks  -- the checks behind 13, by the facts that decide them
 pub mod Grammar  -- the table of reading an image, `reads`
 pub mod Runs  -- the table of laying out a stack, `stack-reads`

@@ -1,5 +1,5 @@
 -- Netpbm's binary greymap (P5), by 02: what an image in a file is, and what the reader answers.
-use Prim.Native.Nat.{ℕ, zero, suc, _+_, _-_, _*_, _≤_, _<_}
+use Prim.Native.Nat.{ℕ, _+_, _-_, _*_, _≤_, _<_}
 use mathlib.Core.Path.{_≡_}
 use mathlib.Core.Bool.{Bool, true, false, cond, not, _&&_, _||_}
 use mathlib.Core.List.{List, [], _∷_, _++_}
@@ -133,6 +133,7 @@ pub record Sizes : Type 0 where
   pub height : ℕ
   pub highest : ℕ
 
+-- A header.
 unfoldable pub headerOf : List ℕ → Reading Sizes
 headerOf l =
     andThen (magic l) (λ (u : Unit {0}) (a : List ℕ).
@@ -141,10 +142,12 @@ headerOf l =
     andThen (fieldOf c) (λ (top : ℕ) (d : List ℕ).
     oneWhite (record { width = w; height = h; highest = top }) d))))
 
+-- Nothing was read.
 unfoldable pub isMissing : {A : Type 0} → Reading A → Bool
 isMissing missing = true
 isMissing (found a l) = false
 
+-- What was read, and what is left behind it; zeros and nothing where nothing was read, on which no answer rests, since that is refused.
 unfoldable pub sizesIn : Reading Sizes → Sizes
 sizesIn missing = record { width = 0; height = 0; highest = 0 }
 sizesIn (found s l) = s
@@ -178,13 +181,13 @@ sizesChecks s left =
 unfoldable pub readChecks : List ℕ → ℕ → List Check
 readChecks file at = let r = headerOf (drop at file) in malformed r ∷ sizesChecks (sizesIn r) (length (restIn r))
 
--- The image that is read there.
+-- The image of a header, whose samples start at a place.
+abbrev pub imageFrom : Sizes → ℕ → Image
+imageFrom s start = record { width = s .width; height = s .height; start = start; next = start + s .width * s .height }
+
+-- The image that is read at a place: its samples start where the header ends.
 unfoldable pub imageRead : List ℕ → ℕ → Image
-imageRead file at =
-    let r = headerOf (drop at file) in
-    let s = sizesIn r in
-    let start = length file - length (restIn r) in
-    record { width = s .width; height = s .height; start = start; next = start + s .width * s .height }
+imageRead file at = let r = headerOf (drop at file) in imageFrom (sizesIn r) (length file - length (restIn r))
 
 -- The reader's answer.
 unfoldable pub read : List ℕ → ℕ → Answer Image

@@ -3,23 +3,18 @@ use Prim.Native.Nat.{ℕ, zero, suc, _+_, _*_, _<_, _≤_, suc-le-suc}
 use native.Mathlib.Nat.{not-suc-le-zero, le-of-suc-le-suc, suc-mul, zero-mul}
 use native.Mathlib.Omega.{arith}
 use mathlib.Core.Path.{_≡_, refl, sym, ap, subst, _∙_}
-use mathlib.Core.Bool.{Bool, false, not}
-use mathlib.Core.List.{List, [], _∷_, _++_, List·Memᴰ, List·Memᴰ·head, List·Memᴰ·tail}
+use mathlib.Core.List.{List, [], _∷_, _++_}
 use mathlib.Core.Logic.{_↔_, _⊎_, inl, inr, ⊎-elim}
-use lib.Dec.{eqb, ltb}
 use lib.ListN.{length, getD, replicate, length-append}
-use borrow.Author.Tests.{ltb-false, le-ltb, lt-ltb, eqb-true, not-false}
-use Rattle.definitions.specs.Refusals.{Check, Answer, accepted, refused, answer, wrongLength, framesOver}
-use Rattle.laws.specs.checks.Checks.{not-both, same-value, stop, skip, done, passed, accepted-too, refused-too, pass-all, stop-all, passed-all, length-stop, length-skip}
+use borrow.Author.Tests.{ltb-false, le-ltb, lt-ltb}
+use Rattle.definitions.specs.Refusals.{Check, Answer, accepted, refused, answer, wrongLength}
+use Rattle.laws.specs.checks.Checks.{not-both, value-is, stop, skip, done, passed, accepted-too, refused-too, pass-all, stop-all, passed-all, length-stop, length-skip}
+use Rattle.laws.specs.checks.ChecksStack.{frames-stop, frames-skip}
 use Rattle.laws.specs.general.Cases.{lt-or-le, eq-or-ne}
 use Rattle.pgm_format.specs.Pgm.{Image, ImageAt, readChecks, imageRead, read, samplesOf}
 use Rattle.pgm_format.specs.Stack.{Run, ended, image, imagesFrom, nextFrom, placePast, imagesChecks, widthsOf, heightsOf, joinedSamples, readStackChecks, readStack}
 use Rattle.pgm_format.specs.Headers.{at-long}
 use Rattle.pgm_format.specs.Grammar.{reads}
-
--- an accepted answer has the value that it was made of
-value-is : {A : Type 0} (l : List Check) {a b : A} → answer l a ≡ accepted b → a ≡ b
-value-is l {a} e = same-value (sym (accepted-too a a l e) ∙ e)
 
 module _ (file : List ℕ) where
   read-image : {at : ℕ} {i : Image} → ImageAt file at i → imageRead file at ≡ i
@@ -159,7 +154,7 @@ module _ (file : List ℕ) where
       -- refused exactly so
       pub refusal : (n : ℕ) (v : List ℕ) → (readStack file at widths heights samples ≡ refused n v) ↔ StackRefusal n v
 
-    total : ℕ
+    abbrev total : ℕ
     total = length (joinedSamples file (imagesFrom file at widths))
 
     abbrev last : List Check
@@ -170,18 +165,16 @@ module _ (file : List ℕ) where
 
     module _ (h : widths ≤ 16) (e : heights ≡ widths) where
       fit : {r : Answer ℕ} → r ≡ answered → r ≡ readStack file at widths heights samples
-      unfolding readStack readStackChecks framesOver answered total
+      unfolding readStack readStackChecks answered
       fit q =
-          let v = nextFrom file at widths in
-          skip v (framesOver widths) _ (le-ltb 16 widths h)
-          (skip v (framesOver heights) _ (le-ltb 16 heights (omega arith)) (length-skip v heights widths _ e q))
+          let v = nextFrom file at widths in frames-skip v widths _ h (frames-skip v heights _ (omega arith) (length-skip v heights widths _ e q))
 
-      images-refused : {n : ℕ} {v : List ℕ} → answer (imagesChecks file at widths) (nextFrom file at widths) ≡ refused n v
+      pub images-refused : {n : ℕ} {v : List ℕ} → answer (imagesChecks file at widths) (nextFrom file at widths) ≡ refused n v
           → readStack file at widths heights samples ≡ refused n v
       unfolding answered
       images-refused p = sym (fit (stop-all _ (imagesChecks file at widths) last p))
 
-      images-passed : answer (imagesChecks file at widths) (nextFrom file at widths) ≡ accepted (nextFrom file at widths)
+      pub images-passed : answer (imagesChecks file at widths) (nextFrom file at widths) ≡ accepted (nextFrom file at widths)
           → answer last (nextFrom file at widths) ≡ readStack file at widths heights samples
       unfolding answered
       images-passed p = fit (sym (pass-all _ (imagesChecks file at widths) last p))
@@ -196,7 +189,6 @@ module _ (file : List ℕ) where
     images-of l end r e = ap (imagesFrom file at) (sym e) ∙ run-images at l end r
 
     total-of : (l : List Image) (end : ℕ) → Run file at l end → length l ≡ widths → total ≡ length (joinedSamples file l)
-    unfolding total
     total-of l end r e = ap (λ (m : List Image). length (joinedSamples file m)) (images-of l end r e)
 
     -- from what stands there to the answer
@@ -208,16 +200,15 @@ module _ (file : List ℕ) where
         ∙ ap accepted (ap (nextFrom file at) (sym (s .number)) ∙ run-next at (s .images) end (s .run))
 
     refuses : (n : ℕ) (v : List ℕ) → StackRefusal n v → readStack file at widths heights samples ≡ refused n v
-    unfolding readStack readStackChecks framesOver
+    unfolding readStack readStackChecks
     refuses n v (frames-over o) = ⊎-elim
-        (λ (w : 16 < widths). sym (stop _ (framesOver widths) _ (lt-ltb 16 widths w)))
+        (λ (w : 16 < widths). sym (frames-stop _ widths _ w))
         (λ (h : 16 < heights). ⊎-elim
-        (λ (w : 16 < widths). sym (stop _ (framesOver widths) _ (lt-ltb 16 widths w)))
-        (λ (w : widths ≤ 16). sym (skip _ (framesOver widths) _ (le-ltb 16 widths w) (stop _ (framesOver heights) _ (lt-ltb 16 heights h))))
+        (λ (w : 16 < widths). sym (frames-stop _ widths _ w))
+        (λ (w : widths ≤ 16). sym (frames-skip _ widths _ w (frames-stop _ heights _ h)))
         (lt-or-le 16 widths))
         o
-    refuses n v (lists-unequal w h u) =
-        sym (skip _ (framesOver widths) _ (le-ltb 16 widths w) (skip _ (framesOver heights) _ (le-ltb 16 heights h) (length-stop _ heights widths _ u)))
+    refuses n v (lists-unequal w h u) = sym (frames-skip _ widths _ w (frames-skip _ heights _ h (length-stop _ heights widths _ u)))
     refuses n v (past-end w e k) = images-refused w e (past-refused _ at widths k)
     refuses n v (image-refused w e m u s) = images-refused w e (run-refused _ at (s .images) (s .here) (s .run) (s .refusal) widths (s .fewer))
     refuses n v (samples-wrong w e l end r q u) =
@@ -230,7 +221,6 @@ module _ (file : List ℕ) where
     Means (refused n v) = StackRefusal n v
 
     fit-means : widths ≤ 16 → heights ≡ widths → Means (readStack file at widths heights samples)
-    unfolding total
     fit-means h e = ⊎-elim
         (λ (k : length file < at). subst Means (sym (refuses 13 [] (past-end h e k))) (past-end h e k))
         (λ (k : at ≤ length file). on (answer (imagesChecks file at widths) (nextFrom file at widths)) k refl)

@@ -1,7 +1,7 @@
 -- The checks of a header that is well formed, by the facts that decide them: `..-stop` refuses, `all-pass` accepts.
 use mathlib.Core.Path.{_≡_, ap}
 use mathlib.Core.Bool.{not}
-use mathlib.Core.List.{List, [], _∷_}
+use mathlib.Core.List.{[], _∷_}
 use mathlib.Core.Logic.{⊎-elim}
 use Prim.Native.Nat.{ℕ, _*_, _≤_, _<_, max}
 use native.Mathlib.Omega.{arith}

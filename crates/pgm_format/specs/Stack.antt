@@ -32,7 +32,7 @@ unfoldable pub imagesChecks : List ℕ → ℕ → ℕ → List Check
 imagesChecks file at zero = placePast file at ∷ []
 imagesChecks file at (suc n) = readChecks file at ++ imagesChecks file (imageRead file at .next) n
 
--- What a stack takes of them.
+-- What a stack takes of them: their widths, their heights, and their samples, one image's behind the other's.
 unfoldable pub widthsOf : List Image → List ℕ
 widthsOf = map (λ (i : Image). i .width)
 

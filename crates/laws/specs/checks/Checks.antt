@@ -88,6 +88,10 @@ module _ {A B : Type 0} (a : A) (b : B) where
   pub refused-too : (l : List Check) {n : ℕ} {v : List ℕ} → answer l a ≡ refused n v → answer l b ≡ refused n v
   refused-too l e = answer-at l ∙ ap (λ (r : Answer A). onward r (accepted b)) e
 
+-- an accepted answer has the value that it was made of
+pub value-is : {A : Type 0} (l : List Check) {a b : A} → answer l a ≡ accepted b → a ≡ b
+value-is l {a} e = same-value (sym (accepted-too a a l e) ∙ e)
+
 module _ {A : Type 0} (a : A) where
   -- checks that all pass leave those after them
   pub pass-all : (l m : List Check) {b : A} → answer l b ≡ accepted b → answer (l ++ m) a ≡ answer m a

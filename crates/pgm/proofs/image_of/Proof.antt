@@ -1,13 +1,13 @@
 -- One branch for each check, in order. Sides of at most 8,192 have a product that fits.
 use borrow.Author.Needs.{needs}
 use mathlib.Core.Path.{subst}
-use Prim.Native.Nat.{ℕ, _-_, _<_, _≤_, max}
+use Prim.Native.Nat.{ℕ, _-_, _<_, _≤_}
 use native.Mathlib.Omega.{arith}
 use Rattle.laws.specs.images.Sizes.{area}
-use Rattle.pgm_format.specs.Pgm.{Image}
+use Rattle.pgm_format.specs.Pgm.{Image, imageFrom}
 use Rattle.pgm_format.specs.SizeChecks.{longest-stop, highest-stop, short-stop, all-pass}
 use Rattle.pgm.specs.declared.header.Head.{Head}
-use Rattle.pgm.proofs.Images.{imageFrom, sizesOf}
+use Rattle.pgm.proofs.Images.{sizesOf}
 use Rattle.pgm.proofs.image_of.Statement.{statement}
 use Rattle.pgm.proofs.image_of.Tie as tie
 

@@ -1,6 +1,6 @@
 -- The places are in order and in the file, or the part is empty.
 use borrow.Author.Needs.{needs}
-use Rattle.pgm.proofs.Images.{part-crossed, part-outside, part-inside}
+use Rattle.pgm_format.specs.Parts.{part-crossed, part-outside, part-inside}
 use Rattle.pgm.proofs.Image.samples.Statement.{statement}
 use Rattle.pgm.proofs.Image.samples.Tie as tie
 

@@ -4,12 +4,12 @@ use Prim.Native.Nat.{_-_}
 use lib.ListN.{length}
 use borrow.Author.Tests.{not-true, not-false}
 use mathlib.Core.Path.{sym, _∙_}
-use Rattle.pgm.proofs.Numbers.{Reading, number-none, number-more, number-stop, number-end}
+use Rattle.pgm.proofs.Numbers.{SoFar, number-none, number-more, number-stop, number-end}
 use Rattle.pgm.proofs.header.read_number.Statement.{statement}
 use Rattle.pgm.proofs.header.read_number.Tie as tie
 
 abbrev Inv-loop : tie.InvT-loop
-Inv-loop file at value₀ i₀ value i = Reading file at value i
+Inv-loop file at value₀ i₀ value i = SoFar file at value i
 
 abbrev μ-loop : tie.MeasureT-loop
 μ-loop file at value₀ i₀ value i = length file - i

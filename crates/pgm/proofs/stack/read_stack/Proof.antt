@@ -6,7 +6,7 @@ use Rattle.definitions.specs.Refusals.{accepted, answer}
 use Rattle.pgm_format.specs.Stack.{imagesChecks}
 use Rattle.pgm.specs.Inner.{runRead}
 use Rattle.pgm.proofs.Runs.{extent}
-use Rattle.pgm.proofs.StackAnswers.{ListsFit, widths-many, heights-many, lists-differ, images-refused, images-pass, samples-are, samples-wrong, laid-out, as-they-were, as-laid}
+use Rattle.pgm.proofs.StackAnswers.{ListsFit, widths-many, heights-many, lists-differ, run-refused, images-pass, samples-are, samples-wrong, laid-out, as-they-were, as-laid}
 use Rattle.pgm.proofs.stack.read_stack.Statement.{statement}
 use Rattle.pgm.proofs.stack.read_stack.Tie as tie
 
@@ -14,14 +14,14 @@ returns : tie.Need-returns
 returns c = as-they-were _ _ _ _ _ (widths-many _ _ _ _ _ (c .if1 .taken))
 
 returns-2 : tie.Need-returns-2
-returns-2 c = as-they-were _ _ _ _ _ (heights-many _ _ _ _ _ (c .before .if1 .left) (c .if2 .taken))
+returns-2 c = as-they-were _ _ _ _ _ (heights-many _ _ _ _ _ (c .if2 .taken))
 
 returns-3 : tie.Need-returns-3
 returns-3 c = as-they-were _ _ _ _ _ (lists-differ _ _ _ _ _ (c .before .before .if1 .left) (c .before .if2 .left) (c .if3 .taken))
 
 -- the first three checks pass
 lists-fit : (c : tie.Else3) → let a = c .before .before .before .before .before .before .before .args in ListsFit (length (a .widths .now)) (length (a .heights .now))
-lists-fit c = (c .before .before .if1 .left, c .before .if2 .left, c .if3 .left)
+lists-fit c = (c .before .before .if1 .left, c .if3 .left)
 
 -- what the run answers of its images
 run-answer : (c : tie.After-read-run) → let a = c .before .before .before .before .before .before .before .before .args in
@@ -46,7 +46,7 @@ lay-requires c κs =
 returns-5 : tie.Need-returns-5
 returns-5 c =
     let r = c .before .before .before in
-    as-they-were _ _ _ _ _ (images-refused _ _ _ _ _ (lists-fit (r .before)) (sym (ap runRead (c .before .e .given .1)) ∙ run-answer r))
+    as-they-were _ _ _ _ _ (run-refused _ _ _ _ _ (lists-fit (r .before)) (sym (ap runRead (c .before .e .given .1)) ∙ run-answer r))
 
 returns-6 : tie.Need-returns-6
 returns-6 c =
