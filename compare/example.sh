@@ -34,17 +34,19 @@ report_prints_the_texts() { # NAME
   echo "$1: prints the text of stacksteps for $count inputs and $farther texts at a longer reach, byte for byte, also of PGM files"
 }
 
+commented=$'\n# a bracket\n'
+
 report_prints() { # NAME REACH INPUT TEXT
   "$room/report" 64 64 "$2" <"$3" | cmp - "$4" || { echo "$1: prints another text than $4"; exit 1; }
-  images_of "$3" | "$room/report" "$2" | cmp - "$4" || { echo "$1: prints another text than $4 of a PGM file"; exit 1; }
+  images_of "$3" "$commented" | "$room/report" "$2" | cmp - "$4" || { echo "$1: prints another text than $4 of a PGM file"; exit 1; }
 }
 
-# The frames of an input as PGM images.
-images_of() { # INPUT
+# The frames of an input as PGM images, with something between P5 and the width.
+images_of() { # INPUT GAP
   local frame frames
   frames=$(($(wc -c <"$1") / 4096))
   for ((frame = 0; frame < frames; frame++)); do
-    printf 'P5\n# %s\n64 64\n255\n' "$1"
+    printf 'P5%s64 64\n255\n' "$2"
     dd if="$1" bs=4096 skip="$frame" count=1 status=none
   done
 }
@@ -55,6 +57,29 @@ report_refuses() { # NAME
   said=$(printf 'P5 1 1 255 aP5 1 1 254 b' | "$room/report" 1 2>&1) || status=$?
   [ "$status $said" = "1 the image at byte 12 cannot be read
 refused 14" ] || { echo "$1: says $status $said of a file that cannot be read"; exit 1; }
+}
+
+# Files of the same frames have the same bytes once saved, whatever their headers have; and what is saved already stays.
+saves_in_one_form() { # NAME
+  local input file count=0 kept=0
+  for input in compare/vectors/data/stacksteps/*.stdin; do
+    [ "$(($(wc -c <"$input") % 4096))" -eq 0 ] || continue
+    images_of "$input" "$commented" | "$room/saved" | cmp - <(images_of "$input" $'\n') || { echo "$1: saves the frames of $input in another form"; exit 1; }
+    count=$((count + 1))
+  done
+  for file in compare/vectors/data/netpbm/*.pgm; do
+    "$room/saved" <"$file" | cmp - "$file" || { echo "$1: saves $file, which Netpbm wrote, in another form"; exit 1; }
+    kept=$((kept + 1))
+  done
+  echo "$1: saves the frames of $count files without their comments, and $kept files of Netpbm as they are"
+}
+
+# A file with an image that cannot be read: the images before it, which it is, and the number of its refusal.
+saves_up_to() { # NAME
+  local said status=0
+  said=$(printf 'P5 1 1 255 aP5 1 1 255' | "$room/saved" 2>&1 >"$room/front") || status=$?
+  [ "$status $said" = '1 the image at byte 12 cannot be read: refused 13' ] || { echo "$1: says $status $said of a file that cannot be read"; exit 1; }
+  printf 'P5\n1 1\n255\na' | cmp - "$room/front" || { echo "$1: does not save what stands before an image that cannot be read"; exit 1; }
 }
 
 # Calibration card D.
@@ -75,6 +100,15 @@ fi
 if at_hand examples/report.c c++; then
   c++ -x c++ -std=c++17 "${flags[@]}" examples/report.c -x none "$archive" -o "$room/report"
   report_prints_the_texts 'examples/report.c as C++'
+fi
+if at_hand examples/saved.c cc; then
+  cc -std=c11 "${flags[@]}" examples/saved.c "$archive" -o "$room/saved"
+  saves_in_one_form 'examples/saved.c as C'
+  saves_up_to 'examples/saved.c as C'
+fi
+if at_hand examples/saved.c c++; then
+  c++ -x c++ -std=c++17 "${flags[@]}" examples/saved.c -x none "$archive" -o "$room/saved"
+  saves_in_one_form 'examples/saved.c as C++'
 fi
 if at_hand examples/cut.rs rustc; then
   rustc examples/cut.rs -L "${archive%/*}" -l static=mtb_c -o "$room/cut"

@@ -1,8 +1,7 @@
 /* The report of a bracket: report REACH < FILE.pgm, or report WIDTH HEIGHT REACH < FRAMES. The frames stand one after another on standard
    input, as PGM images or as bare samples, a byte each. Prints a line for the bracket, one for each frame and one for each of its rivals, as
    the program stacksteps does. */
-#include <stdio.h>
-#include <stdlib.h>
+#include "input.h"
 #include "mtb.h"
 
 static int32_t field(const uint8_t *record, int i) {
@@ -10,30 +9,9 @@ static int32_t field(const uint8_t *record, int i) {
     return (int32_t)((uint32_t)b[0] | (uint32_t)b[1] << 8 | (uint32_t)b[2] << 16 | (uint32_t)b[3] << 24);
 }
 
-static void *room(size_t bytes) {
-    void *p = malloc(bytes > 0 ? bytes : 1); /* never null, not for an empty list either */
-    if (p == NULL) exit(1);
-    return p;
-}
-
 static void refused(uint32_t status) {
     printf("refused %u\n", (unsigned)status);
     exit(1);
-}
-
-static uint8_t *standard_input(size_t *length) {
-    size_t space = 65536;
-    uint8_t *input = (uint8_t *)room(space);
-    *length = 0;
-    for (;;) {
-        size_t got = fread(input + *length, 1, space - *length, stdin);
-        *length += got;
-        if (got == 0) return input;
-        if (*length == space) {
-            input = (uint8_t *)realloc(input, space *= 2);
-            if (input == NULL) exit(1);
-        }
-    }
 }
 
 /* A stack's lists. */

@@ -1,14 +1,15 @@
 /*
- * mtb.h: image registration by median threshold bitmaps, every call proved. Version 3.1.0.
+ * mtb.h: image registration by median threshold bitmaps, every call proved. Version 3.2.0.
  *
  * Link libmtb_c.a, which `rt staticlib mtb_c` writes to target/staticlib (x86-64). docs/CALLS.md has each call in full.
  *
  * Status. A call returns 0 where it is accepted, else the number of the first check that fails, in the order given with the call
  * after "Refused:". A refused call writes nothing but `values`, and under 10 the scratch.
  *
- * Lists. A list passes as a pointer and its length in elements. Its length is exactly the one given with the call; only scratch and
- * record space may be longer, and then what lies past the need stays as it was, and a file has any length. Pointers are aligned and
- * never null, not at length 0 either, and what a call writes overlaps nothing else that it is lent.
+ * Lists. A list passes as a pointer and its length in elements. Its length is exactly the one given with the call; only scratch,
+ * record space and the buffer of a file that is written may be longer, and then what lies past the need stays as it was, and a file
+ * that is read has any length. Pointers are aligned and never null, not at length 0 either, and what a call writes overlaps nothing
+ * else that it is lent.
  *
  * Slots, such as `x` or `count`, are never read, so that they need not be set before. They are written only where the call is
  * accepted; mtb_row and mtb_level, which have no refusal, always write theirs. `values` is written at its front by the refusals that
@@ -33,7 +34,7 @@
 extern "C" {
 #endif
 
-#define MTB_VERSION "3.1.0"
+#define MTB_VERSION "3.2.0"
 
 /* Limits. */
 #define MTB_MOST_SIDE 8192
@@ -134,6 +135,17 @@ uint32_t mtb_read_pgm(const uint8_t *file, size_t file_length, size_t at,
 uint32_t mtb_read_stack(const uint8_t *file, size_t file_length, size_t at,
                         size_t *widths, size_t widths_length, size_t *heights, size_t heights_length,
                         uint8_t *samples, size_t samples_length, size_t *next);
+
+/* Bytes that are enough for the file of any frame of this size: the header has 11 to 17. */
+#define MTB_PGM_SPACE(width, height) ((size_t)(width) * (size_t)(height) + 17)
+
+/* Writes a frame as a file to the front of `file`, in one form: P5, line feed, width, blank, height, line feed, 255, line feed, samples. The
+   numbers are in decimal with no 0 in front, and there is no comment. So frames of the same size and samples, and no others, have the same
+   bytes. mtb_read_pgm reads the frame back wherever its file stands, and an image that it accepted takes no more bytes written than it
+   took. `file` has room for the file or more; what lies past the file stays as it was. length is the file's length, so that another
+   image may be written to file + length. Refused: 1; 2 for samples, file. Writes file, length. */
+uint32_t mtb_write_pgm(const uint8_t *samples, size_t samples_length, size_t width, size_t height,
+                       uint8_t *file, size_t file_length, size_t *length);
 
 /* ---- levels ---- */
 

@@ -1,9 +1,10 @@
 //! Netpbm's binary greymaps (P5): the header is four words of its lines, each line without
 //! its comment. A number stays a text of digits until its length says that it is small.
 
+use crate::gray::Frame;
 use crate::refusals::{
     HEADER_MALFORMED, HIGHEST_VALUE_OTHER, LONGEST_SIDE, MOST_FRAMES, Refusal, SAMPLES_MISSING,
-    SIDE_TOO_LONG, TOO_MANY_FRAMES, WRONG_LENGTH, refuse_if,
+    SIDE_TOO_LONG, TOO_MANY_FRAMES, WRONG_LENGTH, check_sides, refuse_if,
 };
 
 /// An image of a file: its size, where its samples start, and the place behind them.
@@ -136,4 +137,32 @@ pub fn read_stack(
     }
     refuse_if(samples != laid.samples.len(), WRONG_LENGTH)?;
     Ok(laid)
+}
+
+/// The digits of a number: its last one behind those of its tenth, unless it is the only one.
+fn digits(number: usize) -> Vec<u8> {
+    let last = b'0' + (number % 10) as u8;
+    match number / 10 {
+        0 => vec![last],
+        tenth => [digits(tenth), vec![last]].concat(),
+    }
+}
+
+/// A frame as the file of one image: 1, 2. `room` is the length of a buffer, which then begins
+/// with it.
+pub fn write(frame: Frame, room: usize) -> Result<Vec<u8>, Refusal> {
+    check_sides(&[frame.width, frame.height])?;
+    refuse_if(!frame.is_whole(), WRONG_LENGTH)?;
+    let [width, height] = [frame.width, frame.height].map(digits);
+    let parts = [
+        b"P5\n",
+        &width[..],
+        b" ",
+        &height[..],
+        b"\n255\n",
+        frame.samples,
+    ];
+    let file = parts.concat();
+    refuse_if(room < file.len(), WRONG_LENGTH)?;
+    Ok(file)
 }

@@ -1,4 +1,7 @@
-//! Netpbm's binary greymaps (P5): one image of a file, and several as a stack.
+//! Netpbm's binary greymaps (P5): one image of a file, several as a stack, and a frame as a
+//! file.
+
+use crate::Frame;
 
 /// `image` gets width, height, where the samples start in the file, and the place behind
 /// them.
@@ -54,6 +57,32 @@ pub fn read_stack(
             samples.as_mut_ptr(),
             samples.len(),
             next,
+        )
+    }
+}
+
+/// `file` then begins with the frame's file, and `length` gets how long that is.
+pub fn write_pgm(frame: Frame, file: &mut [u8], length: &mut usize) -> u32 {
+    unsafe extern "C" {
+        fn mtb_write_pgm(
+            samples: *const u8,
+            samples_length: usize,
+            width: usize,
+            height: usize,
+            file: *mut u8,
+            file_length: usize,
+            length: *mut usize,
+        ) -> u32;
+    }
+    unsafe {
+        mtb_write_pgm(
+            frame.samples.as_ptr(),
+            frame.samples.len(),
+            frame.width,
+            frame.height,
+            file.as_mut_ptr(),
+            file.len(),
+            length,
         )
     }
 }

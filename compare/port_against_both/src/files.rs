@@ -3,6 +3,7 @@
 
 pub mod headers;
 pub mod stacks;
+pub mod writes;
 
 use naive::Refusal;
 use naive::pgm::{Image, read};

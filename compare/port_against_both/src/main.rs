@@ -20,11 +20,11 @@ mod whole;
 use std::fmt::Debug;
 use std::process::ExitCode;
 
-use files::{headers, stacks};
+use files::{headers, stacks, writes};
 use naive::Refusal;
 use trials::{Call, Outcome, call, same};
 
-const CALLS: [Call; 30] = [
+const CALLS: [Call; 37] = [
     call("from_rgb", 3000, frames::from_rgb),
     call("shrink2 average", 3000, frames::shrink2_average),
     call("shrink2 subsample", 3000, frames::shrink2_subsample),
@@ -59,6 +59,13 @@ const CALLS: [Call; 30] = [
         stacks::no_image,
     ),
     call("read_stack bracket", 300, stacks::bracket),
+    call("write_pgm", 4000, writes::frame),
+    call("write_pgm sides", writes::SIZES, writes::sides),
+    call("write_pgm digits", writes::EVERY_SIDE, writes::digits),
+    call("write_pgm over", 4 * writes::OVERS, writes::over),
+    call("write_pgm lengths", 1000, writes::lengths),
+    call("write_pgm again", 1600, writes::again),
+    call("write_pgm pairs", writes::PAIRS, writes::pair),
 ];
 
 fn main() -> ExitCode {

@@ -1,21 +1,22 @@
-//! Files read and reported at the same time on separate buffers: each gives what it gives
-//! alone.
+//! Files written, read and reported at the same time on separate buffers: each gives what it
+//! gives alone.
 
 use std::thread;
 
 use port::files::read_stack;
-use port::{Options, Rivalry};
+use port::{Frame, Options, Rivalry};
 use trials::Outcome;
 use trials::frames::Frames;
 use trials::inputs::Random;
 
+use crate::files::writes::{file_of_all, one_behind_another};
 use crate::whole::{Reported, reported};
 
 const SIDE: usize = 64;
 const FRAMES: usize = 3;
 const THREADS: u64 = 4;
 const TIMES: usize = 50;
-/// A file is read so often before it is reported, as a reading is short.
+/// A file is written and read so often before it is reported, as either is short.
 const READINGS: usize = 100;
 
 const OPTIONS: Options = Options::USUAL;
@@ -33,13 +34,17 @@ fn noise(seed: u64) -> Frames {
     Frames::of_one_size(frames, (width, height), 1)
 }
 
-fn file_of(frames: &Frames) -> Vec<u8> {
+fn lent(frames: &Frames) -> Vec<Frame<'_>> {
     let (width, height) = (frames.widths[0], frames.heights[0]);
-    let header = format!("P5\n{width} {height}\n255\n");
-    let images = frames.samples.chunks(width * height);
-    images
-        .flat_map(|samples| [header.as_bytes(), samples].concat())
-        .collect()
+    let samples = frames.samples.chunks(width * height);
+    samples.map(|f| Frame::new(f, width, height)).collect()
+}
+
+/// Writes a file of these frames; says whether it is what is meant.
+fn writes(file: &[u8], frames: &Frames) -> bool {
+    let mut written = vec![0; file.len()];
+    let length = one_behind_another(&lent(frames), &mut written);
+    length == Ok(file.len()) && written == file
 }
 
 /// Reads a file of these frames; says whether they are what is read.
@@ -65,9 +70,9 @@ pub fn run() -> Outcome {
     }
     let as_alone = |seed: u64, alone: &_| {
         let frames = noise(seed);
-        let file = file_of(&frames);
-        let read = || (0..READINGS).all(|_| reads(&file, &frames));
-        (0..TIMES).all(|_| read() && report_of(&frames) == *alone)
+        let file = file_of_all(&lent(&frames));
+        let kept = || (0..READINGS).all(|_| writes(&file, &frames) && reads(&file, &frames));
+        (0..TIMES).all(|_| kept() && report_of(&frames) == *alone)
     };
     let same = thread::scope(|scope| {
         let started: Vec<_> = (0..THREADS)
@@ -80,8 +85,7 @@ pub fn run() -> Outcome {
         return Err("a file or a report at the same time as others differs".into());
     }
     let readings = TIMES * READINGS;
-    println!(
-        "{THREADS} threads at the same time, {readings} files and {TIMES} reports each, as alone"
-    );
+    print!("{THREADS} threads at the same time, ");
+    println!("{readings} files written and read and {TIMES} reports each, as alone");
     Ok(())
 }

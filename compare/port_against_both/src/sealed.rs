@@ -114,7 +114,9 @@ pub fn run() -> Outcome {
         files::read_stack(file, 0, sides.0, sides.1, samples, sealed.one())
     };
 
-    let calls: [(&str, u32, &dyn Fn() -> u32); 36] = [
+    let write = |frame, room| files::write_pgm(frame, sealed.list(room), sealed.one());
+
+    let calls: [(&str, u32, &dyn Fn() -> u32); 41] = [
         ("from_rgb", SIDE_TOO_LONG, &|| {
             frames::from_rgb(&[], TOO_LONG, 0, sealed.list(0))
         }),
@@ -245,6 +247,20 @@ pub fn run() -> Outcome {
                 sealed.one(),
             )
         }),
+        ("write_pgm", SIDE_TOO_LONG, &|| {
+            write(Frame::new(&[], TOO_LONG, 0), 100)
+        }),
+        ("write_pgm", SIDE_TOO_LONG, &|| {
+            write(Frame::new(&samples[..1], 1, TOO_LONG), 0)
+        }),
+        ("write_pgm", WRONG_LENGTH, &|| {
+            write(Frame::new(&samples[..15], 4, 4), 100)
+        }),
+        ("write_pgm", WRONG_LENGTH, &|| {
+            let header = b"P5\n4 4\n255\n".len();
+            write(frame, header + 15)
+        }),
+        ("write_pgm", WRONG_LENGTH, &|| write(frame, 0)),
     ];
     print!("refused without a touch of an output:");
     for (call, number, made) in calls {

@@ -13,6 +13,8 @@ use trials::inputs::Random;
 use trials::recount;
 use trials::{Outcome, same};
 
+use crate::files::writes::file_of;
+
 /// The bytes of such a thread's stack, what the system takes of them included.
 const ROOM: usize = 98_304;
 const SIDES: [usize; 2] = [1, LONGEST_SIDE];
@@ -68,11 +70,18 @@ fn every_call(side: usize) -> Outcome {
     let shift = Shift::new(5, -3);
     on_thread("shifted", || moves::shifted(reference, shift, &mut out))?;
 
-    let header = format!("P5\n{side} {side}\n255\n");
-    let file = [header.as_bytes(), reference.samples].concat();
+    let whole = file_of(reference);
+    let (mut file, mut length) = (vec![0; whole.len()], 0);
+    on_thread("write_pgm", || {
+        files::write_pgm(reference, &mut file, &mut length)
+    })?;
+    let (port, meant) = ((length, &file), (whole.len(), &whole));
+    same("write_pgm on a thread", ("port", &port), ("meant", &meant))?;
+    drop(whole);
+
     let mut image = [0; 4];
     on_thread("read_pgm", || files::read_pgm(&file, 0, image.each_mut()))?;
-    let meant = [side, side, header.len(), file.len()];
+    let meant = [side, side, file.len() - area, file.len()];
     same("read_pgm on a thread", ("port", &image), ("meant", &meant))?;
     let [mut widths, mut heights, mut next] = [[0]; 3];
     on_thread("read_stack", || {

@@ -1,23 +1,31 @@
-//! The readers of greymaps beside a C peer, as the original reads no files. The first sample of
-//! each image is 0: sscanf begins with a look for the end of the string, and has it there.
+//! The readers and the writer of greymaps beside a C peer, as the original has neither. The first
+//! sample of each image that is read is 0: sscanf begins with a look for the end of the string,
+//! and has it there.
 
 use std::cell::RefCell;
 use std::hint::black_box;
 
-use ::port::files as port;
 use ::port::refusals::LONGEST_SIDE;
+use ::port::{Frame, files as port};
 
-use crate::frames::accepted;
+use crate::frames::{accepted, frame};
 use crate::inputs::{Input, Size};
 use crate::peer;
-use crate::race::race;
+use crate::race::{ROUNDS, race, race_of};
 use crate::{ONE, Timed, timed};
 
+const SMALL: Size = (64, 64);
+const LARGE: Size = (1920, 1080);
+const LARGEST: Size = (LONGEST_SIDE, LONGEST_SIDE);
+/// Those of the writer.
+pub const SIZES: [Size; 4] = [SMALL, ONE, LARGE, LARGEST];
 /// A header before few samples and before many, which no reader of a header looks at.
-pub const SIZES: [Size; 3] = [(64, 64), ONE, (LONGEST_SIDE, LONGEST_SIDE)];
-const STACK_SIZES: [Size; 2] = [(64, 64), ONE];
+const HEADER_SIZES: [Size; 3] = [SMALL, ONE, LARGEST];
+const STACK_SIZES: [Size; 2] = [SMALL, ONE];
 const STACK: usize = 4;
 const COMMENT: usize = 1 << 16;
+/// More than other calls have: both sides copy as fast, and a fiftieth is to be told.
+const WRITE_ROUNDS: usize = 4 * ROUNDS;
 
 /// A file of one image, with something between `P5` and the width.
 fn file(input: &Input, gap: &str) -> Vec<u8> {
@@ -42,6 +50,9 @@ fn times(peer: Reader, file: &[u8]) -> [f64; 2] {
 }
 
 pub fn read_pgm(input: &Input) -> Vec<Timed> {
+    if !HEADER_SIZES.contains(&input.size) {
+        return vec![];
+    }
     let plain = times(peer::scan, &file(input, "\n"));
     let comment = format!("\n#{}\n", "c".repeat(COMMENT));
     let comment = times(peer::scan_bytes, &file(input, &comment));
@@ -97,4 +108,32 @@ pub fn read_stack(input: &Input) -> Vec<Timed> {
         &mut || room.borrow_mut().by_port(black_box(&file)),
     ]);
     vec![timed("read_stack of 4", 1.0, input, times)]
+}
+
+type Writer = fn(Frame, &mut [u8], &mut usize) -> u32;
+
+pub fn write_pgm(input: &Input) -> Vec<Timed> {
+    // The header takes half of the peer's time for a small frame, and nothing for a large one.
+    let goal = if input.size == SMALL { 1.5 } else { 1.0 };
+    let frame = frame(input);
+    let file = vec![0; file(input, "\n").len()];
+    let [there, here] = [peer::print as Writer, port::write_pgm].map(|writer| {
+        let (mut file, mut length) = (file.clone(), 0);
+        accepted(writer(frame, &mut file, &mut length));
+        (file, length)
+    });
+    assert!(there == here, "the peer and the port write the same");
+    drop(there);
+
+    // From one place into one room, as copies take longer or shorter by where these lie.
+    let room = RefCell::new(here);
+    let write = |writer: Writer| {
+        let (file, length) = &mut *room.borrow_mut();
+        accepted(writer(*black_box(&frame), file, length));
+    };
+    let times = race_of(
+        WRITE_ROUNDS,
+        [&mut || write(peer::print), &mut || write(port::write_pgm)],
+    );
+    vec![timed("write_pgm", goal, input, times)]
 }

@@ -66,8 +66,8 @@ impl Timed {
     /// What the port is timed beside.
     fn peer(&self) -> &'static str {
         let call = call_of(&self.call);
-        let is_reader = READERS.iter().any(|(name, ..)| call == Some(*name));
-        if is_reader { "C peer" } else { "original" }
+        let is_on_files = ON_FILES.iter().any(|(name, ..)| call == Some(*name));
+        if is_on_files { "C peer" } else { "original" }
     }
 
     fn is_case(&self, other: &Self) -> bool {
@@ -154,30 +154,31 @@ const CALLS_ON_ONE: [Call; 2] = [
 ];
 const ONE: Size = (640, 480);
 
-/// Calls on files, which the original does not read, on one kind of input.
+/// Calls on files, which the original lacks, on one kind of input.
 #[cfg(c_peer)]
-const READERS: [Call; 2] = [
+const ON_FILES: [Call; 3] = [
     ("read_pgm", files::read_pgm, &[]),
     ("read_stack", files::read_stack, &[]),
+    ("write_pgm", files::write_pgm, &[]),
 ];
 #[cfg(c_peer)]
-const READ_SIZES: [Size; 3] = files::SIZES;
+const FILE_SIZES: [Size; 4] = files::SIZES;
 /// What the head of the output says of them.
 #[cfg(c_peer)]
-const READERS_SAID: &str = "The original reads no files: read_pgm and read_stack are timed beside a
-peer in C at -O2, which has sscanf for a plain header, a loop over the bytes for one with a
-comment, and sscanf and memcpy for a stack.";
+const FILES_SAID: &str = "The original has no files: read_pgm, read_stack and write_pgm are timed
+beside a peer in C at -O2, which has sscanf for a plain header, a loop over the bytes for one
+with a comment, sscanf and memcpy for a stack, and sprintf and memcpy to write.";
 
 #[cfg(not(c_peer))]
-const READERS: [Call; 0] = [];
+const ON_FILES: [Call; 0] = [];
 #[cfg(not(c_peer))]
-const READ_SIZES: [Size; 0] = [];
+const FILE_SIZES: [Size; 0] = [];
 #[cfg(not(c_peer))]
-const READERS_SAID: &str =
-    "There is no cc for a peer in C, so read_pgm and read_stack are left out.";
+const FILES_SAID: &str =
+    "There is no cc for a peer in C, so read_pgm, read_stack and write_pgm are left out.";
 
 fn calls() -> impl Iterator<Item = &'static Call> {
-    CALLS.iter().chain(&CALLS_ON_ONE).chain(&READERS)
+    CALLS.iter().chain(&CALLS_ON_ONE).chain(&ON_FILES)
 }
 
 /// The call that a table is of: one whose name is the table's or its first word, or that
@@ -238,11 +239,11 @@ fn fail(error: &str) -> ! {
 fn print_tables(named: &[String]) {
     println!(
         "Nanoseconds of processor time per call, the least of {} rounds in which both sides
-take turns, of fewer where a report takes long.
+take turns, of fewer where a report takes long, of more where frames are only copied.
 Both are built for release without overflow checks and called by C's convention, never
 inlined. The original allocates its answer in every call and frees it, the port writes
 to buffers made before. {}
-{READERS_SAID}
+{FILES_SAID}
 The ratio is original, or peer, to port; `<` marks one below the goal.
 Packing alone is compute_bitmaps less threshold on the port's side, and the whole of
 compute_bitmaps on the original's. Percentile 50, tolerance 4.
@@ -304,8 +305,8 @@ fn pass(is_timed: impl Fn(&Call) -> bool) -> Vec<Timed> {
         }
     }
     time(&CALLS_ON_ONE, &Input::new(ONE, Kind::Noise));
-    for size in READ_SIZES {
-        time(&READERS, &Input::new(size, Kind::Flat));
+    for size in FILE_SIZES {
+        time(&ON_FILES, &Input::new(size, Kind::Flat));
     }
     all
 }

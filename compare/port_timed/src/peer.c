@@ -1,4 +1,4 @@
-/* What a C programmer would write in place of the port's readers of greymaps, to time them beside. */
+/* What a C programmer would write in place of the port's readers and its writer of greymaps, to time them beside. */
 
 #include <stddef.h>
 #include <stdint.h>
@@ -11,6 +11,7 @@ enum { WIDTH, HEIGHT, SAMPLES, NEXT };
 uint32_t peer_scan(const uint8_t *file, size_t image[4]);
 uint32_t peer_scan_bytes(const uint8_t *file, size_t file_length, size_t image[4]);
 uint32_t peer_scan_stack(const uint8_t *file, size_t count, size_t *widths, size_t *heights, uint8_t *samples, size_t *next);
+uint32_t peer_print(const uint8_t *samples, size_t width, size_t height, uint8_t *file, size_t file_length, size_t *length);
 
 static uint32_t answer(size_t image[4], size_t highest, size_t header) {
     image[SAMPLES] = header;
@@ -79,4 +80,17 @@ uint32_t peer_scan_bytes(const uint8_t *file, size_t file_length, size_t image[4
     image[WIDTH] = numbers[0];
     image[HEIGHT] = numbers[1];
     return answer(image, numbers[2], (size_t)(at - file) + 1);
+}
+
+/* A frame as a file. */
+uint32_t peer_print(const uint8_t *samples, size_t width, size_t height, uint8_t *file, size_t file_length, size_t *length) {
+    char header[64];
+    size_t header_length = (size_t)sprintf(header, "P5\n%zu %zu\n255\n", width, height);
+    if (file_length < header_length + width * height) {
+        return 1;
+    }
+    memcpy(file, header, header_length);
+    memcpy(file + header_length, samples, width * height);
+    *length = header_length + width * height;
+    return 0;
 }

@@ -1,4 +1,6 @@
-//! Readers of greymaps in C, which `peer.c` has. Each gives a status back.
+//! Readers and a writer of greymaps in C, which `peer.c` has. Each gives a status back.
+
+use port::Frame;
 
 unsafe extern "C" {
     fn peer_scan(file: *const u8, image: *mut [usize; 4]) -> u32;
@@ -10,6 +12,14 @@ unsafe extern "C" {
         heights: *mut usize,
         samples: *mut u8,
         next: *mut usize,
+    ) -> u32;
+    fn peer_print(
+        samples: *const u8,
+        width: usize,
+        height: usize,
+        file: *mut u8,
+        file_length: usize,
+        length: *mut usize,
     ) -> u32;
 }
 
@@ -40,6 +50,20 @@ pub fn scan_stack<const COUNT: usize>(
             heights.as_mut_ptr(),
             samples.as_mut_ptr(),
             next,
+        )
+    }
+}
+
+/// A frame as a file, by sprintf and memcpy.
+pub fn print(frame: Frame, file: &mut [u8], length: &mut usize) -> u32 {
+    unsafe {
+        peer_print(
+            frame.samples.as_ptr(),
+            frame.width,
+            frame.height,
+            file.as_mut_ptr(),
+            file.len(),
+            length,
         )
     }
 }

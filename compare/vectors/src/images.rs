@@ -16,14 +16,14 @@ use crate::cases::{
 };
 use crate::line::{Answered, Line, mode};
 
-type Image<Asked> = Lent<u8, Asked>;
+pub type Image<Asked> = Lent<u8, Asked>;
 
 impl<Asked> Image<Asked> {
-    fn frame(&self) -> Frame<'_> {
+    pub fn frame(&self) -> Frame<'_> {
         Frame::new(&self.list, self.width, self.height)
     }
 
-    fn line(&self) -> Line {
+    pub fn line(&self) -> Line {
         Line::new().frame(self.frame())
     }
 }

@@ -11,6 +11,7 @@ mod neighbours;
 mod netpbm;
 mod pgm;
 mod pgm_stacks;
+mod pgm_writes;
 mod programs;
 mod reports;
 mod shifts;
@@ -30,7 +31,7 @@ const SEED: u64 = 20_030_602;
 
 /// A file's name and the lines of its call. `crates/try_vectors` knows a call by its
 /// place here, from 1 on.
-type Calls = [(&'static str, fn(&mut Random) -> Vec<String>); 20];
+type Calls = [(&'static str, fn(&mut Random) -> Vec<String>); 21];
 
 const CALLS: Calls = [
     ("from_rgb", images::from_rgb),
@@ -53,6 +54,7 @@ const CALLS: Calls = [
     ("report", reports::report),
     ("read_pgm", pgm::read_pgm),
     ("read_stack", pgm_stacks::read_stack),
+    ("write_pgm", pgm_writes::write_pgm),
 ];
 
 type Files = BTreeMap<PathBuf, Vec<u8>>;

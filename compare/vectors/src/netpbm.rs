@@ -5,7 +5,8 @@ use std::iter;
 use std::process::{Command, Output, Stdio};
 use std::thread;
 
-use naive::pgm::{Image, read};
+use naive::gray::Frame;
+use naive::pgm::{Image, read, write};
 use trials::inputs::Random;
 use trials::pgm::{image_for_netpbm, size};
 
@@ -135,11 +136,12 @@ fn sizes_text(images: &[Image]) -> String {
     images.iter().enumerate().map(line).collect()
 }
 
-/// The images as Netpbm writes them.
+/// The images as they are written, and as Netpbm writes them.
 fn written(file: &[u8], images: &[Image]) -> Vec<u8> {
     let image = |image: &Image| {
-        let header = format!("P5\n{} {}\n255\n", image.width, image.height);
-        [header.as_bytes(), &file[image.start..image.next]].concat()
+        let samples = &file[image.start..image.next];
+        let frame = Frame::new(samples, image.width, image.height);
+        write(frame, usize::MAX).expect("it has been read")
     };
     images.iter().flat_map(image).collect()
 }
@@ -162,6 +164,22 @@ fn same(file: &[u8], images: &[Image]) -> io::Result<bool> {
     Ok(same)
 }
 
+/// Whether Netpbm makes of a file's first image what we write of it, and leaves that as it is.
+fn same_written(file: &[u8], first: Image) -> io::Result<bool> {
+    let ours = written(file, &[first]);
+    for given in [&file[..first.next], &ours] {
+        let theirs = run("pgmtopgm", &[], given)?;
+        if theirs.stdout != ours || !theirs.status.success() {
+            println!("Netpbm writes another way: {}", given.escape_ascii());
+            println!("expected {}", ours.escape_ascii());
+            println!("pgmtopgm: {}", theirs.stdout.escape_ascii());
+            println!("pgmtopgm: {}", theirs.stderr.escape_ascii());
+            return Ok(false);
+        }
+    }
+    Ok(true)
+}
+
 /// Holds the kept files and so many made ones against the naive reading and Netpbm.
 pub fn check(random: &mut Random, files: usize) -> io::Result<bool> {
     if let Err(error) = run("pamfile", &["--version"], &[])
@@ -174,11 +192,13 @@ pub fn check(random: &mut Random, files: usize) -> io::Result<bool> {
     let all: Vec<_> = kept.chain(made(random, files)).collect();
     for (file, images) in &all {
         assert_read(file, images);
-        if !same(file, images)? {
+        if !same(file, images)? || !same_written(file, images[0])? {
             return Ok(false);
         }
     }
     let images: usize = all.iter().map(|(_, images)| images.len()).sum();
-    println!("Netpbm reads {images} images of {} files alike", all.len());
+    let files = all.len();
+    print!("Netpbm reads {images} images of {files} files alike and writes them as we do; ");
+    println!("of {files} it leaves what we write as it is");
     Ok(true)
 }

@@ -8,4 +8,5 @@ pub mod Lists  -- lists by index and images by pixel: one more, length, element,
 pub mod Members  -- what a list has in it and in what order: by index, one after another, filtered, mapped
 pub mod Counts  -- how many elements of a list pass a test
 pub mod Writes  -- a run of stores in a list: one more, and the whole
+pub mod Decimals  -- a number in decimal: digit by digit, and the shortest of its numerals
 pub mod Beside  -- two runs of stores in one list, the second past the first

@@ -1,11 +1,13 @@
-// Frames from PGM files.
+// Frames from PGM files, and frames written as such.
 use pgm::PgmAnswer;
+use pgm::WriteAnswer;
 use pgm::stack::StackRead;
 ghost use mathlib.Core.Path.{_≡_};
 ghost use mathlib.Core.List.{List};
+ghost use lib.ListN as lists;
 ghost use lib.ListN.{length};
 ghost use Rattle.definitions.specs.Refusals.{Check, answer, after};
-ghost use Rattle.pgm_format.specs.Pgm.{Image, readChecks, imageRead};
+ghost use Rattle.pgm_format.specs.Pgm.{Image, readChecks, imageRead, Frame, pgm, writeChecks, written};
 ghost use Rattle.pgm_format.specs.Stack.{imagesFrom, nextFrom, widthsOf, heightsOf, joinedSamples, readStackChecks};
 ghost use Rattle.mtb_c.specs.Status.{statusOf};
 
@@ -67,5 +69,31 @@ pub extern "C" fn mtb_read_stack(
             0
         }
         StackRead::Refused(e) => e.number(),
+    }
+}
+
+// Writes a frame as a PGM file at the front of a buffer; the file's length. What lies past it stays.
+#[no_mangle]
+pub extern "C" fn mtb_write_pgm(
+    samples: &[u8],
+    width: usize,
+    height: usize,
+    file: &mut [u8],
+    length: &mut usize,
+) -> u32
+    ensures { λ r. ⌜
+        (let frame : Frame = record { width = width; height = height; samples = now (samples .entry) } in
+        let checks : List Check = writeChecks frame (lists.length (now (file .entry))) in
+        (r ≡ statusOf (answer checks (tt {0})))
+        × (now (file .exit) ≡ after checks (written frame (now (file .entry))) (now (file .entry)))
+        × (now (length .exit) ≡ after checks (lists.length (pgm frame)) (now (length .entry))))
+        ⌝ }
+{
+    match pgm::write(samples, width, height, file) {
+        WriteAnswer::Written(n) => {
+            *length = n;
+            0
+        }
+        WriteAnswer::Refused(e) => e.number(),
     }
 }

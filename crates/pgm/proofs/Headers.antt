@@ -9,7 +9,8 @@ use borrow.Author.Tests.{lt-ltb, le-ltb}
 use lib.Dec.{eqb, ltb}
 use lib.ListN.{length, getD, drop, length-drop}
 use Rattle.laws.specs.general.Cases.{lt-or-le, clash, cond-true, cond-false, and-yes, and-no}
-use Rattle.pgm_format.specs.Pgm.{isWhite, afterGap, digitsOf, afterDigits, valueFrom, Reading, missing, found, isMissing, magic, andThen, fieldOf, oneWhite, Sizes, headerOf}
+use Rattle.definitions.specs.Decimal.{valueFrom}
+use Rattle.pgm_format.specs.Pgm.{isWhite, afterGap, digitsOf, afterDigits, Reading, missing, found, isMissing, magic, andThen, fieldOf, oneWhite, Sizes, headerOf}
 use Rattle.pgm.specs.declared.header.Number.{Number}
 use Rattle.pgm.specs.declared.header.FieldRead.{FieldRead}
 use Rattle.pgm.specs.declared.header.FieldRead.the-variants as fields

@@ -9,7 +9,7 @@ use Rattle.definitions.specs.Refusals.{Answer, refused, answer}
 use Rattle.laws.specs.general.Cases.{lt-or-le, eq-or-ne}
 use Rattle.pgm_format.specs.Pgm as format
 use Rattle.pgm_format.specs.Pgm.{Reading, missing, found, headerOf, Sizes, Image, sizesChecks, imageFrom}
-use Rattle.pgm_format.specs.SizeChecks.{longest-stop, highest-stop}
+use Rattle.pgm_format.specs.SizeChecks.{over-stop, highest-stop}
 use Rattle.pgm_format.specs.Grammar.{read-none, read-some}
 use Rattle.pgm.specs.declared.header.Head.{Head}
 use Rattle.pgm.specs.declared.header.HeaderRead.{HeaderRead}
@@ -38,7 +38,7 @@ same-sizes {w} {w′} {h} {h′} {t} {t′} p q r =
 -- a side that is over 8,192 stays so, and all else that passes is kept whole
 kept-sized : (s : Sizes) (left start : ℕ) → sized (keptSizes s) left start ≡ sized s left start
 kept-sized s left start = ⊎-elim
-    (λ (m : 8192 < max (s .width) (s .height)). sym (longest-stop _ (keptSizes s) left (over (s .width) (s .height) m)) ∙ longest-stop _ s left m)
+    (λ (m : 8192 < max (s .width) (s .height)). sym (over-stop _ (keptSizes s) left (over (s .width) (s .height) m)) ∙ over-stop _ s left m)
     (λ (m : max (s .width) (s .height) ≤ 8192). ⊎-elim
     (λ (e : s .highest ≡ 255). ap (λ (k : Sizes). sized k left start) (same-sizes (whole (omega arith)) (whole (omega arith)) (whole (omega arith))))
     (λ (e : s .highest ≡ 255 → ⊥). sym (highest-stop _ (keptSizes s) left (within (s .width) (s .height) m) (λ k. e (unkept k))) ∙ highest-stop _ s left m e)

@@ -1,30 +1,17 @@
 -- Laying out the images of a run: what is stored so far, with what is left stored behind it, is the whole.
-use mathlib.Core.Path.{_≡_, refl, sym, ap, ap₂, subst, _∙_}
-use mathlib.Core.List.{List, [], _∷_, _++_, map, append-nil, append-assoc}
+use mathlib.Core.Path.{_≡_, refl, sym, ap, subst, _∙_}
+use mathlib.Core.List.{List, [], _∷_, _++_, map}
 use Prim.Native.Nat.{ℕ, zero, suc, _+_, _-_, _<_, _≤_}
 use native.Mathlib.Numerals.{add-one}
 use native.Mathlib.Omega.{arith}
-use lib.ListN.{length, take, drop, set, length-append, drop-of-length-le}
-use lib.Seq.{sets, sets-eq, length-sets, take-length}
-use borrow.Rule.Slice.PartMut.{midOf, putMid, mid-len, post-is}
+use lib.ListN.{length, set, length-append}
+use lib.Seq.{sets, length-sets}
 use Rattle.definitions.specs.Refusals.{Check, accepted, answer}
 use Rattle.laws.specs.checks.Checks.{passed-all}
 use Rattle.laws.specs.general.Writes.{sets-append, sets-whole}
 use Rattle.pgm_format.specs.Pgm.{Image, readChecks, imageRead, samplesOf}
 use Rattle.pgm_format.specs.Stack.{imagesFrom, imagesChecks, widthsOf, heightsOf, joinedSamples}
 use Rattle.pgm.proofs.Runs.{samplesFrom, samples-none, samples-more, checks-more}
-
--- ---- a copy into a part of a list stores there
-
-copied-whole : (l part : List ℕ) → length l ≡ length part → take (length part) part ++ drop (length part) l ≡ part
-copied-whole l part h = ap₂ (λ (x y : List ℕ). x ++ y) (take-length part) (drop-of-length-le l {i = length part} (omega arith)) ∙ append-nil part
-
-pub part-copied : (l part : List ℕ) (a e : ℕ) {new : List ℕ} → e ≡ a + length part → e ≤ length l → new ≡ take (length part) part ++ drop (length part) (midOf a (e - a) l)
-    → putMid a (e - a) l new ≡ sets l a part
-part-copied l part a e {new} q h c =
-    let whole = c ∙ copied-whole (midOf a (e - a) l) part (omega (arith, mid-len a e l h)) in
-    ap₂ (λ (x y : List ℕ). take a l ++ (x ++ y)) whole (post-is a e l (omega arith) ∙ ap (λ (k : ℕ). drop k l) q)
-    ∙ sym (sets-eq part l a (omega arith) ∙ append-assoc (take a l) part (drop (a + length part) l))
 
 -- ---- one number of each image: k are stored, `left` are not yet
 

@@ -6,3 +6,4 @@ pub mod Numbers
 pub mod Places
 pub mod Runs
 pub mod StackAnswers
+pub mod Writing

@@ -5,7 +5,8 @@ use mathlib.Core.List.{List, [], _∷_}
 use Prim.Native.Nat.{ℕ, _+_, _-_, _*_, _≤_, _<_}
 use native.Mathlib.Omega.{arith}
 use lib.ListN.{length, getD, drop, length-append, drop-of-length-le}
-use Rattle.pgm_format.specs.Pgm.{isDigit, digitsOf, afterDigits, valueFrom}
+use Rattle.definitions.specs.Decimal.{isDigit, valueFrom}
+use Rattle.pgm_format.specs.Pgm.{digitsOf, afterDigits}
 use Rattle.pgm_format.specs.Fronts.{digits-front}
 use Rattle.pgm.specs.Inner.{From, kept}
 use Rattle.laws.specs.general.Cases.{cond-true, cond-false}

@@ -8,6 +8,8 @@ use Rattle.pgm.specs.declared.PgmError.the-variants.{Side, Length, Frame
 use Rattle.pgm.specs.declared.Image.{Image}
 use Rattle.pgm.specs.declared.PgmAnswer.{PgmAnswer}
 use Rattle.pgm.specs.declared.PgmAnswer.the-variants as images
+use Rattle.pgm.specs.declared.WriteAnswer.{WriteAnswer}
+use Rattle.pgm.specs.declared.WriteAnswer.the-variants as writes
 use Rattle.pgm.specs.declared.stack.StackRead.{StackRead}
 use Rattle.pgm.specs.declared.stack.StackRead.the-variants as stacks
 
@@ -36,3 +38,8 @@ pgmAnswer (images.Refused e) = refusal e
 abbrev pub stackRead : StackRead → Answer ℕ
 stackRead (stacks.Laid next) = accepted next
 stackRead (stacks.Refused e) = refusal e
+
+-- A written file's length, or a refusal.
+abbrev pub writeAnswer : WriteAnswer → Answer ℕ
+writeAnswer (writes.Written n) = accepted n
+writeAnswer (writes.Refused e) = refusal e

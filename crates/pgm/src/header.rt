@@ -5,7 +5,8 @@ ghost use Prim.Native.Nat.{_+_, _-_, _*_, _≤_};
 ghost use lib.Dec.{eqb};
 ghost use lib.ListN.{length, getD, drop};
 ghost use Rattle.definitions.specs.Sum.{bit, sum};
-ghost use Rattle.pgm_format.specs.Pgm.{isWhite, isDigit, afterGap, digitsOf, afterDigits, valueFrom, isMissing, magic, fieldOf, headerOf};
+ghost use Rattle.definitions.specs.Decimal.{isDigit, valueFrom};
+ghost use Rattle.pgm_format.specs.Pgm.{isWhite, afterGap, digitsOf, afterDigits, isMissing, magic, fieldOf, headerOf};
 ghost use Rattle.pgm.specs.Inner.{From, afterComment, afterWhite, kept, FieldIs, HeaderIs};
 
 // A number, of which no more than 8,193 is kept, and the place behind its digits.

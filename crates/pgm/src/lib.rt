@@ -1,15 +1,20 @@
-// Frames from PGM files: one image at a place of a file, and the images of a file as a stack.
+// PGM files: the image at a place of a file, the images of a file as a stack, and the one way to write a frame.
 mod header;
 pub mod stack;
+mod writer;
 
 use header::Head;
 use header::HeaderRead;
 use header::read_header;
+use writer::digits;
+use writer::put_header;
 ghost use mathlib.Core.Path.{_≡_};
-ghost use Prim.Native.Nat.{_-_, _≤_, max};
-ghost use Rattle.definitions.specs.Refusals.{answer};
+ghost use Prim.Native.Nat.{_+_, _-_, _≤_, max};
+ghost use lib.ListN.{length};
+ghost use lib.Seq.{sets};
+ghost use Rattle.definitions.specs.Refusals.{answer, after};
 ghost use Rattle.pgm_format.specs.Pgm as format;
-ghost use Rattle.pgm.specs.Answers.{numberOf, pgmAnswer};
+ghost use Rattle.pgm.specs.Answers.{numberOf, pgmAnswer, writeAnswer};
 
 // What no side of a frame exceeds, and the highest value that a sample has.
 const LONGEST_SIDE: usize = 8192;
@@ -82,6 +87,42 @@ fn larger(a: usize, b: usize) -> usize
     b
 }
 
+// Puts bytes into a buffer from a place on.
+fn put_bytes(buffer: &mut [u8], at: usize, bytes: &[u8])
+    requires { ⌜ at + length (now bytes) ≤ length (now buffer) ⌝ }
+    ensures { λ _. ⌜ now (buffer .exit) ≡ sets (now (buffer .entry)) at (now (bytes .entry)) ⌝ }
+{
+    let end = at + bytes.len();
+    bytes::copy(bytes, &mut buffer[at..end]);
+}
+
+// The most samples that are put at once.
+const BLOCK: usize = 327680;
+
+// Puts up to a block of bytes into a buffer from a place on. They go by way of an array of its own, which is known to lie apart from both:
+// so it is compiled to one call of memmove from the one to the other, and the array is left out.
+fn put_block(buffer: &mut [u8], at: usize, bytes: &[u8])
+    requires { ⌜ (length (now bytes) ≤ 327680) × (at + length (now bytes) ≤ length (now buffer)) ⌝ }
+    ensures { λ _. ⌜ now (buffer .exit) ≡ sets (now (buffer .entry)) at (now (bytes .entry)) ⌝ }
+{
+    let mut block = [0u8; BLOCK];
+    let n = bytes::copy(bytes, &mut block);
+    put_bytes(buffer, at, &block[..n]);
+}
+
+// Puts samples into a buffer from a place on, block by block.
+fn put_samples(buffer: &mut [u8], at: usize, samples: &[u8])
+    requires { ⌜ at + length (now samples) ≤ length (now buffer) ⌝ }
+    ensures { λ _. ⌜ now (buffer .exit) ≡ sets (now (buffer .entry)) at (now (samples .entry)) ⌝ }
+{
+    let mut done: usize = 0;
+    while samples.len() - done > BLOCK {
+        put_block(buffer, at + done, &samples[done..done + BLOCK]);
+        done += BLOCK;
+    }
+    put_block(buffer, at + done, &samples[done..]);
+}
+
 // The image whose header was read, in a file of so many bytes.
 fn image_of(head: Head, length: usize) -> PgmAnswer
     requires { ⌜ head .start ≤ length ⌝ }
@@ -118,4 +159,35 @@ pub fn read(file: &[u8], at: usize) -> PgmAnswer
         HeaderRead::Missing => PgmAnswer::Refused(PgmError::Header),
         HeaderRead::Found(head) => image_of(head, file.len()),
     }
+}
+
+pub enum WriteAnswer {
+    Written(usize),
+    Refused(PgmError),
+}
+
+// Writes a frame as a file at the front of a buffer, and answers the file's length. What lies past it stays.
+pub fn write(samples: &[u8], width: usize, height: usize, file: &mut [u8]) -> WriteAnswer
+    ensures { λ r. ⌜
+        (let frame : format.Frame = record { width = width; height = height; samples = now (samples .entry) } in
+        (writeAnswer r ≡ format.write frame (length (now (file .entry))))
+        × (now (file .exit) ≡ after (format.writeChecks frame (length (now (file .entry)))) (format.written frame (now (file .entry))) (now (file .entry))))
+        ⌝ }
+{
+    if larger(width, height) > LONGEST_SIDE {
+        return WriteAnswer::Refused(PgmError::Side);
+    }
+    if samples.len() != width * height {
+        return WriteAnswer::Refused(PgmError::Length);
+    }
+    let blank = 3 + digits(width);
+    let feed = blank + 1 + digits(height);
+    let start = feed + 5;
+    let end = start + samples.len();
+    if end > file.len() {
+        return WriteAnswer::Refused(PgmError::Length);
+    }
+    put_header(file, width, height, blank, feed);
+    put_samples(file, start, samples);
+    WriteAnswer::Written(end)
 }

@@ -2,6 +2,7 @@
 use super::Image;
 use super::PgmAnswer;
 use super::PgmError;
+use super::put_samples;
 use super::read;
 ghost use mathlib.Core.Path.{_≡_};
 ghost use mathlib.Core.List.{List};
@@ -95,9 +96,8 @@ fn lay(file: &[u8], at: usize, widths: &mut [usize], heights: &mut [usize], samp
         widths[k] = image.width;
         heights[k] = image.height;
         let part = image.samples(file);
-        let to = from + part.len();
-        bytes::copy(part, &mut samples[from..to]);
-        from = to;
+        put_samples(samples, from, part);
+        from += part.len();
         place = image.next;
         k += 1;
     }

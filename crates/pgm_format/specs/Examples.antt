@@ -1,10 +1,13 @@
--- Files of a few bytes, and what is read of them, computed by the definitions.
+-- Files of a few bytes, what is read of them and how frames are written, computed by the definitions.
 use Prim.Native.Nat.{ℕ}
 use mathlib.Core.Path.{_≡_, refl}
-use mathlib.Core.List.{List, [], _∷_}
+use mathlib.Core.List.{List, [], _∷_, _++_}
+use lib.ListN.{replicate}
+use Rattle.definitions.specs.Decimal.{isDigit, valueFrom, digitsUpTo, decimal}
 use Rattle.definitions.specs.Refusals.{answer, accepted, refused, sideOver, framesOver, wrongLength}
-use Rattle.pgm_format.specs.Pgm.{isWhite, isDigit, valueFrom, afterGap, digitsOf, afterDigits, fieldOf, andThen, oneWhite, magic, headerOf, isMissing, sizesIn, restIn}
+use Rattle.pgm_format.specs.Pgm.{isWhite, afterGap, digitsOf, afterDigits, fieldOf, andThen, oneWhite, magic, headerOf, isMissing, sizesIn, restIn}
 use Rattle.pgm_format.specs.Pgm.{malformed, otherHighest, samplesShort, sizesChecks, readChecks, imageRead, read, partOf, samplesOf}
+use Rattle.pgm_format.specs.Pgm.{Frame, headerBytes, pgm, roomShort, writeChecks, write, written}
 use Rattle.pgm_format.specs.Stack.{imagesFrom, nextFrom, placePast, imagesChecks, joinedSamples, readStackChecks, readStack}
 
 -- "P5#c\n3#\n2 0255\tabcdefX": white space may be comments alone, and a zero may stand in front
@@ -84,3 +87,28 @@ unfolding answer sideOver isWhite isDigit valueFrom afterGap digitsOf afterDigit
     sizesIn restIn malformed otherHighest samplesShort sizesChecks readChecks imageRead read
     framesOver wrongLength imagesFrom nextFrom placePast imagesChecks partOf samplesOf joinedSamples readStackChecks readStack
 pair-read = (refl, refl)
+
+-- ---- the writer
+
+-- "P5\n3 2\n255\nabcdef", the image of `spaced`: 17 bytes, of which the header has 11; what lay past them in a longer buffer stays
+abbrev letters : Frame
+letters = record { width = 3; height = 2; samples = 97 ∷ 98 ∷ 99 ∷ 100 ∷ 101 ∷ 102 ∷ [] }
+
+abbrev lettersFile : List ℕ
+lettersFile = 80 ∷ 53 ∷ 10 ∷ 51 ∷ 32 ∷ 50 ∷ 10 ∷ 50 ∷ 53 ∷ 53 ∷ 10 ∷ 97 ∷ 98 ∷ 99 ∷ 100 ∷ 101 ∷ 102 ∷ []
+
+letters-written : (write letters 19 ≡ accepted 17) × (written letters (replicate 19 88) ≡ lettersFile ++ (88 ∷ 88 ∷ []))
+unfolding answer sideOver wrongLength digitsUpTo decimal headerBytes pgm roomShort writeChecks write written
+letters-written = (refl, refl)
+
+-- a byte less than the file is too short, and so is one sample less; a side over 8,192 goes before both
+letters-refused : (write letters 16 ≡ refused 2 [])
+    × (write (record { width = 3; height = 2; samples = 97 ∷ 98 ∷ 99 ∷ 100 ∷ 101 ∷ [] }) 19 ≡ refused 2 [])
+    × (write (record { width = 8193; height = 2; samples = [] }) 0 ≡ refused 1 [])
+unfolding answer sideOver wrongLength digitsUpTo decimal headerBytes pgm roomShort writeChecks write
+letters-refused = (refl, refl, refl)
+
+-- "P5\n0 10\n255\n": a side of 0 is the digit 0, and 10 has two
+empty-written : pgm (record { width = 0; height = 10; samples = [] }) ≡ 80 ∷ 53 ∷ 10 ∷ 48 ∷ 32 ∷ 49 ∷ 48 ∷ 10 ∷ 50 ∷ 53 ∷ 53 ∷ 10 ∷ []
+unfolding digitsUpTo decimal headerBytes pgm
+empty-written = refl

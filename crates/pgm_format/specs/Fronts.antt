@@ -1,27 +1,21 @@
 -- The grammar's parts and the reader's functions, one by one: what stands at the front of a list is read whole, whatever follows, and what
 -- is read is a part of the grammar.
-use Prim.Native.Nat.{ℕ, zero, suc, _+_, _<_, _≤_, suc-le-suc}
+use Prim.Native.Nat.{ℕ, zero, suc, _+_, _<_, suc-le-suc}
 use native.Mathlib.Nat.{zero-lt-suc, not-suc-le-zero, le-of-suc-le-suc}
 use native.Mathlib.Omega.{arith}
 use mathlib.Core.Path.{_≡_, refl, sym, ap, _∙_}
 use mathlib.Core.Bool.{Bool, true, false, cond, not, _&&_, _||_}
 use mathlib.Core.List.{List, [], _∷_, _++_, append-assoc}
-use lib.Dec.{ltb, leb, eqb}
-use lib.ListN.{length, getD, length-append}
-use borrow.Author.Tests.{leb-true, eqb-true, ltb-true, ne-eqb, lt-ltb}
+use lib.Dec.{ltb, eqb}
+use lib.ListN.{length, getD, length-append, List·getD-append}
+use borrow.Author.Tests.{eqb-true, ltb-true, ne-eqb, lt-ltb}
+use Rattle.definitions.specs.Decimal.{isDigit, valueFrom}
 use Rattle.laws.specs.general.Cases.{clash}
-use Rattle.pgm_format.specs.Pgm.{isWhite, isDigit, Gap, none, white, comment, valueFrom, Field}
+use Rattle.laws.specs.general.Decimals.{digit-range}
+use Rattle.pgm_format.specs.Pgm.{isWhite, Gap, none, white, comment, Field}
 use Rattle.pgm_format.specs.Pgm.{afterGap, digitsOf, afterDigits, Reading, missing, found, fieldOf}
 
 -- ---- bytes
-
-pub digit-range : (b : ℕ) → isDigit b ≡ true → (48 ≤ b) × (b ≤ 57)
-unfolding isDigit
-digit-range b e = on (leb 48 b) refl e
-  where
-    on : (t : Bool) → leb 48 b ≡ t → (t && leb b 57) ≡ true → (48 ≤ b) × (b ≤ 57)
-    on true p q = (leb-true 48 b p, leb-true b 57 q)
-    on false p q = clash (sym q)
 
 digit-not-white : (b : ℕ) → isDigit b ≡ true → isWhite b ≡ false
 unfolding isWhite
@@ -208,10 +202,6 @@ module _ {A : Type 0} where
 
 -- ---- a field
 
-some-first : (l r : List ℕ) → 0 < length l → getD (l ++ r) 0 0 ≡ getD l 0 0
-some-first [] r h = absurd (not-suc-le-zero h)
-some-first (b ∷ l) r h = refl
-
 -- a field is read, where no digit follows
 pub field-read : {l : List ℕ} {n : ℕ} (r : List ℕ) → Field l n → isDigit (getD r 0 0) ≡ false → fieldOf (l ++ r) ≡ found n r
 unfolding fieldOf
@@ -236,7 +226,7 @@ field-read {l} {n} r f e =
     parts = ap (λ (m : List ℕ). m ++ r) (f .parts) ∙ append-assoc (f .gap) d r
 
     first : isDigit (getD (d ++ r) 0 0) ≡ true
-    first = ap isDigit (some-first d r (f .number .some)) ∙ f .number .all 0 (f .number .some)
+    first = ap isDigit (List·getD-append d r 0 0 (f .number .some)) ∙ f .number .all 0 (f .number .some)
 
     skipped : afterGap false (l ++ r) ≡ d ++ r
     skipped =

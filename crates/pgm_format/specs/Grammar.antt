@@ -13,7 +13,7 @@ use Rattle.pgm_format.specs.Pgm.{Header, HeaderAt, Image, ImageAt, Readi
 use Rattle.pgm_format.specs.Pgm.{malformed, sizesChecks, readChecks, imageFrom, imageRead, read, samplesOf}
 use Rattle.pgm_format.specs.Fronts.{found-or-missing, same-found}
 use Rattle.pgm_format.specs.Parts.{part-inside}
-use Rattle.pgm_format.specs.SizeChecks.{longest-stop, highest-stop, short-stop, all-pass}
+use Rattle.pgm_format.specs.SizeChecks.{over-stop, highest-stop, short-stop, all-pass}
 use Rattle.pgm_format.specs.Headers.{sizes, at-read, at-front, at-long}
 
 -- the longest side is over 8,192 where one is
@@ -88,7 +88,7 @@ module _ (file : List ℕ) (at : ℕ) where
   side-refused : SideOver → read file at ≡ refused 1 []
   side-refused o =
       answered (o .header)
-      ∙ sym (longest-stop _ (sizes (o .width) (o .height) (o .highest)) (length (o .rest)) (longest-over (o .over)))
+      ∙ sym (over-stop _ (sizes (o .width) (o .height) (o .highest)) (length (o .rest)) (longest-over (o .over)))
 
   highest-refused : OtherHighest → read file at ≡ refused 14 []
   highest-refused o = answered (o .header) ∙ sym (highest-stop _ (sizes (o .width) (o .height) (o .highest)) (length (o .rest)) (omega (arith, o .narrow, o .low)) (o .other))
@@ -136,7 +136,7 @@ module _ (file : List ℕ) (at : ℕ) where
     where
       over : (8192 < s .width) ⊎ (8192 < s .height) → Means (answer (sizesChecks s (length rest)) (imageFrom s (length file - length rest)))
       over o =
-          subst Means (longest-stop _ s (length rest) (longest-over o))
+          subst Means (over-stop _ s (length rest) (longest-over o))
           (refl, inr (inl (refl, record { width = s .width; height = s .height; highest = s .highest; rest = rest; header = a; over = o })))
 
       header : s .highest ≡ 255 → (l : List ℕ) → rest ≡ l → HeaderAt file at (s .width) (s .height) 255 l

@@ -9,8 +9,9 @@ use lib.Dec.{eqb}
 use lib.ListN.{length, getD, take, drop, length-append, take-append-drop, drop-of-length-le}
 use lib.Seq.{drop-at, length-take-le}
 use borrow.Author.Tests.{eqb-true}
+use Rattle.definitions.specs.Decimal.{isDigit}
 use Rattle.laws.specs.general.Cases.{lt-or-le}
-use Rattle.pgm_format.specs.Pgm.{isWhite, isDigit, Field, Header, HeaderAt, Reading, missing, found, andThen, magic, fieldOf, oneWhite, Sizes, headerOf}
+use Rattle.pgm_format.specs.Pgm.{isWhite, Field, Header, HeaderAt, Reading, missing, found, andThen, magic, fieldOf, oneWhite, Sizes, headerOf}
 use Rattle.pgm_format.specs.Fronts.{white-not-digit, found-or-missing, same-found, field-read, field-not-digit, field-front}
 
 -- ---- a header

@@ -1,21 +1,18 @@
--- Netpbm's binary greymap (P5), by 02: what an image in a file is, and what the reader answers.
+-- Netpbm's binary greymap (P5), by 02: what an image in a file is, what the reader answers, and the one way to write a frame.
 use Prim.Native.Nat.{ℕ, _+_, _-_, _*_, _≤_, _<_}
 use mathlib.Core.Path.{_≡_}
 use mathlib.Core.Bool.{Bool, true, false, cond, not, _&&_, _||_}
 use mathlib.Core.List.{List, [], _∷_, _++_}
 use lib.Dec.{ltb, leb, eqb}
 use lib.ListN.{length, getD, take, drop}
-use Rattle.definitions.specs.Refusals.{Check, Answer, answer, sideOver}
+use Rattle.definitions.specs.Decimal.{isDigit, valueFrom, Numeral, decimal}
+use Rattle.definitions.specs.Refusals.{Check, Answer, answer, sideOver, wrongLength}
 
 -- ---- bytes
 
 -- Blank, tab, carriage return, line feed.
 unfoldable pub isWhite : ℕ → Bool
 isWhite b = eqb b 32 || eqb b 9 || eqb b 13 || eqb b 10
-
--- 0 to 9.
-unfoldable pub isDigit : ℕ → Bool
-isDigit b = leb 48 b && leb b 57
 
 -- ---- the grammar
 
@@ -24,17 +21,6 @@ pub data Gap : List ℕ → Type 0 where
   none : Gap []
   white : (b : ℕ) (l : List ℕ) → isWhite b ≡ true → Gap l → Gap (b ∷ l)
   comment : (c l : List ℕ) → ((i : ℕ) → i < length c → eqb (getD c i 0) 10 ≡ false) → Gap l → Gap (35 ∷ (c ++ (10 ∷ l)))
-
--- The number that some digits write behind others that write n.
-unfoldable pub valueFrom : ℕ → List ℕ → ℕ
-valueFrom n [] = n
-valueFrom n (d ∷ l) = valueFrom (10 * n + (d - 48)) l
-
--- One or more digits that write n. Zeros may stand in front.
-pub record Numeral (d : List ℕ) (n : ℕ) : Type 0 where
-  pub some : 0 < length d
-  pub all : (i : ℕ) → i < length d → isDigit (getD d i 0) ≡ true
-  pub value : valueFrom 0 d ≡ n
 
 -- At least one white space byte or comment, then a number.
 pub record Field (l : List ℕ) (n : ℕ) : Type 0 where
@@ -200,3 +186,47 @@ partOf file start next = cond (leb start next && leb next (length file)) (take (
 -- An image's samples.
 unfoldable pub samplesOf : List ℕ → Image → List ℕ
 samplesOf file i = partOf file (i .start) (i .next)
+
+-- The frame that an image is: its size and its samples.
+pub record Frame : Type 0 where
+  pub width : ℕ
+  pub height : ℕ
+  pub samples : List ℕ
+
+unfoldable pub frameOf : List ℕ → Image → Frame
+frameOf file i = record { width = i .width; height = i .height; samples = samplesOf file i }
+
+-- ---- the writer
+
+-- A frame within 01's limits: sides of at most 8,192, and width times height samples.
+pub record Within (f : Frame) : Type 0 where
+  pub narrow : f .width ≤ 8192
+  pub low : f .height ≤ 8192
+  pub counted : length (f .samples) ≡ f .width * f .height
+
+-- P5, line feed, width, space, height, line feed, 255, line feed.
+unfoldable pub headerBytes : ℕ → ℕ → List ℕ
+headerBytes w h = 80 ∷ 53 ∷ 10 ∷ (decimal w ++ (32 ∷ (decimal h ++ (10 ∷ 50 ∷ 53 ∷ 53 ∷ 10 ∷ []))))
+
+-- The file of a frame: the header, then its samples.
+unfoldable pub pgm : Frame → List ℕ
+pgm f = headerBytes (f .width) (f .height) ++ f .samples
+
+-- 2: a buffer shorter than the file.
+unfoldable pub roomShort : ℕ → ℕ → Check
+roomShort room need = record { fails = ltb room need; number = 2; values = [] }
+
+-- Writing a frame into a buffer of so many bytes.
+unfoldable pub writeChecks : Frame → ℕ → List Check
+writeChecks f room =
+    sideOver (f .width) ∷ sideOver (f .height)
+    ∷ wrongLength (length (f .samples)) (f .width * f .height)
+    ∷ roomShort room (length (pgm f)) ∷ []
+
+-- The writer's answer: the file's length.
+unfoldable pub write : Frame → ℕ → Answer ℕ
+write f room = answer (writeChecks f room) (length (pgm f))
+
+-- What the buffer holds then: the file, and past it what it held.
+unfoldable pub written : Frame → List ℕ → List ℕ
+written f old = pgm f ++ drop (length (pgm f)) old

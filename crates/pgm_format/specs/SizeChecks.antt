@@ -2,28 +2,22 @@
 use mathlib.Core.Path.{_≡_, ap}
 use mathlib.Core.Bool.{not}
 use mathlib.Core.List.{[], _∷_}
-use mathlib.Core.Logic.{⊎-elim}
 use Prim.Native.Nat.{ℕ, _*_, _≤_, _<_, max}
-use native.Mathlib.Omega.{arith}
 use borrow.Author.Tests.{lt-ltb, le-ltb, eq-eqb, ne-eqb}
 use Rattle.definitions.specs.Refusals.{Answer, accepted, refused, answer}
-use Rattle.laws.specs.checks.Checks.{stop, skip, done, side-stop, side-skip}
-use Rattle.laws.specs.general.Cases.{lt-or-le}
+use Rattle.laws.specs.checks.Checks.{stop, skip, done, longest-stop, longest-skip}
 use Rattle.pgm_format.specs.Pgm.{Sizes, otherHighest, samplesShort, sizesChecks}
 
 module _ {A : Type 0} (a : A) (s : Sizes) (left : ℕ) where
-  pub longest-stop : 8192 < max (s .width) (s .height) → refused 1 [] ≡ answer (sizesChecks s left) a
+  pub over-stop : 8192 < max (s .width) (s .height) → refused 1 [] ≡ answer (sizesChecks s left) a
   unfolding sizesChecks
-  longest-stop m = ⊎-elim
-      (λ (w : 8192 < s .width). side-stop a (s .width) _ w)
-      (λ (w : s .width ≤ 8192). side-skip a (s .width) _ w (side-stop a (s .height) _ (omega arith)))
-      (lt-or-le 8192 (s .width))
+  over-stop m = longest-stop a (s .width) (s .height) _ m
 
   module _ (m : max (s .width) (s .height) ≤ 8192) where
     -- the sides pass
     inside : {r : Answer A} → r ≡ answer (otherHighest (s .highest) ∷ samplesShort left (s .width * s .height) ∷ []) a → r ≡ answer (sizesChecks s left) a
     unfolding sizesChecks
-    inside q = side-skip a (s .width) _ (omega arith) (side-skip a (s .height) _ (omega arith) q)
+    inside q = longest-skip a (s .width) (s .height) _ m q
 
     pub highest-stop : (s .highest ≡ 255 → ⊥) → refused 14 [] ≡ answer (sizesChecks s left) a
     unfolding otherHighest

@@ -1,10 +1,10 @@
--- Images that stand one behind another in a file, as a stack's widths, heights and samples.
+-- Images that stand one behind another in a file, as a stack's widths, heights and samples; and frames written one behind another.
 use Prim.Native.Nat.{ℕ, zero, suc, _≤_}
 use mathlib.Core.List.{List, [], _∷_, _++_, map}
 use lib.Dec.{ltb}
 use lib.ListN.{length}
 use Rattle.definitions.specs.Refusals.{Check, Answer, answer, wrongLength, framesOver}
-use Rattle.pgm_format.specs.Pgm.{Image, ImageAt, readChecks, imageRead, samplesOf}
+use Rattle.pgm_format.specs.Pgm.{Image, ImageAt, readChecks, imageRead, samplesOf, Frame, pgm}
 
 -- Some images stand in a file from a place on, each where the one before it ends, the last up to `end`.
 pub data Run (file : List ℕ) : ℕ → List Image → ℕ → Type 0 where
@@ -53,3 +53,10 @@ readStackChecks file at widths heights samples =
 -- The answer is the place behind the last image.
 unfoldable pub readStack : List ℕ → ℕ → ℕ → ℕ → ℕ → Answer ℕ
 readStack file at widths heights samples = answer (readStackChecks file at widths heights samples) (nextFrom file at widths)
+
+-- ---- the writer
+
+-- The files of some frames, one behind another.
+unfoldable pub filesOf : List Frame → List ℕ
+filesOf [] = []
+filesOf (f ∷ l) = pgm f ++ filesOf l

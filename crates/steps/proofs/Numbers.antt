@@ -1,74 +1,34 @@
 -- Numbers in decimal digits, and whole numbers by their sign and size.
-use mathlib.Core.Path.{_≡_, refl, sym, ap, _∙_}
+use mathlib.Core.Path.{_≡_, refl, sym, ap, ap₂, _∙_}
 use mathlib.Core.Bool.{Bool, true, false, cond}
-use mathlib.Core.List.{_++_}
-use mathlib.Core.Logic.{⊎-elim}
-use Prim.Native.Nat.{ℕ, zero, suc, _+_, _-_, _*_, _/_, _^_, _≤_, _<_}
+use mathlib.Core.List.{List, [], _∷_, _++_}
+use Prim.Native.Nat.{ℕ, zero, suc, _+_, _-_, _/_, _%_, _≤_, _<_}
+use native.Mathlib.Numerals.{unary-clauses}
 use native.Mathlib.Omega.{arith}
 use borrow.Author.Tests.{lt-ltb, le-ltb}
 use lib.IntN.{ℤ, pos, negsuc, natAbs}
 use lib.Signed.{ltZ}
-use Rattle.io.specs.Digits.{digits, Fewest}
+use Rattle.io.specs.Digits.{glyph, digits, Fewest}
+use Rattle.definitions.specs.Decimal.{decimal}
 use Rattle.definitions.specs.Geometry.{behind}
-use Rattle.laws.specs.general.Cases.{lt-or-le}
+use Rattle.laws.specs.general.Cases.{cond-true}
+use Rattle.laws.specs.general.Decimals.{decimal-one, decimal-more}
 use Rattle.laws.specs.general.Whole.{alone, lt-true, lt-false}
-use Rattle.steps.specs.Text.{ascii, placesUpTo, decimal, integer}
+use Rattle.steps.specs.Text.{ascii, integer}
 use Rattle.definitions.specs.Report.{signedOf}
 
--- a power of ten is ten times the one before
-ten : (k : ℕ) → 10 ^ suc k ≡ 10 * 10 ^ k
-ten k = omega arith
+-- the last digit, as io has it
+last : (n : ℕ) → glyph (n % 10) ≡ 48 + n % 10
+last n = cond-true _ _ (lt-ltb (n % 10) 10 (omega arith))
 
-tens : (k : ℕ) → 1 ≤ 10 ^ k
-tens zero = omega arith
-tens (suc k) = omega (arith, tens k)
-
--- a number of two digits or more is at least the power below it
-lowest : (n k : ℕ) → Fewest 10 1 n (suc (suc k)) → 10 ^ suc k ≤ n
-lowest n k f =
-    let e : suc (suc k) - 1 ≡ suc k = omega arith in
-    let low : 10 ^ (suc (suc k) - 1) ≤ n = f .2 (omega arith) in
-    omega (arith, ap (λ (m : ℕ). 10 ^ m) e)
-
--- how many digits a number has, by whether it is one
-pub one-place : (most n : ℕ) → n < 10 → placesUpTo (suc most) n ≡ 1
-unfolding placesUpTo
-one-place most n h = ap (λ (t : Bool). cond t 1 (suc (placesUpTo most (n / 10)))) (lt-ltb n 10 h)
-
-pub more-places : (most n : ℕ) → 10 ≤ n → placesUpTo (suc most) n ≡ suc (placesUpTo most (n / 10))
-unfolding placesUpTo
-more-places most n h = ap (λ (t : Bool). cond t 1 (suc (placesUpTo most (n / 10)))) (le-ltb n 10 h)
-
--- the fewest digits that hold a number are those that it has
-places : (most n k : ℕ) → n ≤ most → Fewest 10 1 n k → k ≡ placesUpTo most n
-unfolding placesUpTo
-places zero n zero h f = omega arith
-places zero n (suc zero) h f = refl
-places zero n (suc (suc k)) h f = absurd (omega (arith, lowest n k f, ten k, tens k))
-places (suc most) n k h f = ⊎-elim
-    (λ (l : n < 10). small k f l ∙ sym (one-place most n l))
-    (λ (l : 10 ≤ n). large (places most (n / 10)) k f l ∙ sym (more-places most n l))
-    (lt-or-le n 10)
-  where
-    small : (k : ℕ) → Fewest 10 1 n k → n < 10 → k ≡ 1
-    small zero f l = absurd (omega arith)
-    small (suc zero) f l = refl
-    small (suc (suc k)) f l = absurd (omega (arith, lowest n k f, ten k, tens k))
-
-    large : ((k : ℕ) → n / 10 ≤ most → Fewest 10 1 (n / 10) k → k ≡ placesUpTo most (n / 10)) → (k : ℕ) → Fewest 10 1 n k → 10 ≤ n → k ≡ suc (placesUpTo most (n / 10))
-    large rest zero f l = absurd (omega arith)
-    large rest (suc zero) f l = absurd (omega arith)
-    large rest (suc (suc k)) f l =
-        let p : 10 ^ suc (suc k) ≡ 10 * 10 ^ suc k = ten (suc k) in
-        let q : 10 ^ suc k ≡ 10 * 10 ^ k = ten k in
-        let low : 10 ^ suc k ≤ n = lowest n k f in
-        let high : n < 10 ^ suc (suc k) = f .1 in
-        let e : 10 ^ (suc k - 1) ≡ 10 ^ k = let d : suc k - 1 ≡ k = omega arith in ap (λ (m : ℕ). 10 ^ m) d in
-        ap suc (rest (suc k) (omega arith) (omega arith, omega arith, (λ m. omega arith)))
-
+-- the fewest digits that hold a number are the number in decimal
 pub decimal-digits : (n k : ℕ) → Fewest 10 1 n k → digits 10 k n ≡ decimal n
-unfolding decimal
-decimal-digits n k f = ap (λ (m : ℕ). digits 10 m n) (places n n k (omega arith) f)
+decimal-digits n zero f = absurd (omega arith)
+decimal-digits n (suc zero) f = ap (λ (c : ℕ). c ∷ []) (last n ∙ omega arith) ∙ sym (decimal-one n (omega arith))
+decimal-digits n (suc (suc k)) f =
+    let low = simp unary-clauses at (f .2 (omega arith)) in
+    ap₂ (λ (d : List ℕ) (c : ℕ). d ++ (c ∷ [])) (decimal-digits (n / 10) (suc k) (omega arith, omega arith, (λ m. simp unary-clauses (omega arith)))) (last n)
+    ∙ sym (decimal-more n (omega arith))
 
 -- a whole number by its sign and size
 pub integer-below : (z : ℤ) → 0 < behind z → ascii "-" ++ decimal (natAbs z) ≡ integer z

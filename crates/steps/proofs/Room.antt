@@ -6,48 +6,28 @@ use Prim.Native.Nat.{ℕ, zero, suc, _+_, _*_, _/_, _%_, _^_, _≤_, _<_}
 use native.Mathlib.Omega.{arith}
 use lib.IntN.{ℤ, pos, negsuc, natAbs}
 use lib.ListN.{length, length-append, length-map}
-use Rattle.io.specs.Digits.{digits, glyph}
 use Rattle.definitions.specs.Build.{build, joined}
+use Rattle.definitions.specs.Decimal.{decimal}
 use Rattle.definitions.specs.Geometry.{Shift, origin, ahead, largest, commonCrop}
 use Rattle.definitions.specs.Align.{Stack, shiftOf, shifts}
 use Rattle.definitions.specs.Report.{Record, frameCounts, rivals, frameRecords, records, verdict, reportCrop}
 use Rattle.laws.specs.general.Cases.{lt-or-le, eq-or-ne}
+use Rattle.laws.specs.general.Decimals.{decimal-few}
 use Rattle.laws.specs.images.Crop.{largest-le}
 use Rattle.laws.specs.general.Lists.{build-at, build-length}
 use Rattle.laws.specs.general.Members.{in-joined, joined-sum}
 use Rattle.laws.specs.search.StepBounds.{abs-parts, shift-small}
 use Rattle.laws.specs.general.Sums.{sum-le}
 use Rattle.laws.specs.report.Verdicts.{near-few}
-use Rattle.steps.specs.Text.{ascii, placesUpTo, decimal, integer, line, heading, verdictWord, frameLine, recordLine, recordLines, frameText, reportText, inputTerms, refusalText, text}
-use Rattle.steps.proofs.Numbers.{one-place, more-places}
+use Rattle.steps.specs.Text.{ascii, integer, line, heading, verdictWord, frameLine, recordLine, recordLines, frameText, reportText, inputTerms, refusalText, text}
 use Rattle.steps.proofs.Called.{Few, Short, small, short, few-from, stackFrom, text-long, text-part, text-none, text-report}
 
 -- ---- words
 
-places-few : (most n k : ℕ) → n < 10 ^ suc k → placesUpTo most n ≤ suc k
-unfolding placesUpTo
-places-few zero n k h = omega arith
-places-few (suc most) n k h = ⊎-elim
-    (λ (l : n < 10). omega (arith, one-place most n l))
-    (λ (l : 10 ≤ n). omega (arith, more-places most n l, longer (places-few most (n / 10)) k h l))
-    (lt-or-le n 10)
-  where
-    longer : ((k : ℕ) → n / 10 < 10 ^ suc k → placesUpTo most (n / 10) ≤ suc k) → (k : ℕ) → n < 10 ^ suc k → 10 ≤ n → suc (placesUpTo most (n / 10)) ≤ suc k
-    longer rest zero h l = absurd (omega arith)
-    longer rest (suc k) h l = omega (arith, rest k (omega arith))
-
-digits-long : (k n : ℕ) → length (digits 10 k n) ≡ k
-digits-long zero n = omega arith
-digits-long (suc k) n = omega (arith, length-append (digits 10 k (n / 10)) (glyph (n % 10) ∷ []), digits-long k (n / 10))
-
-decimal-few : (n k : ℕ) → n < 10 ^ suc k → length (decimal n) ≤ suc k
-unfolding decimal
-decimal-few n k h = omega (arith, digits-long (placesUpTo n n) n, places-few n n k h)
-
 integer-few : (z : ℤ) (k : ℕ) → natAbs z < 10 ^ suc k → length (integer z) ≤ suc (suc k)
 unfolding integer ascii
-integer-few (pos n) k h = omega (arith, decimal-few n k h)
-integer-few (negsuc n) k h = omega (arith, decimal-few (suc n) k h)
+integer-few (pos n) k h = omega (arith, decimal-few k n h)
+integer-few (negsuc n) k h = omega (arith, decimal-few k (suc n) h)
 
 word-few : (v : ℕ) → length (verdictWord v) ≤ 9
 unfolding verdictWord ascii
@@ -74,11 +54,11 @@ record-few e h =
     omega (
       arith,
       line-long (decimal (e .frame)) (integer (e .shift .x) ∷ integer (e .shift .y) ∷ decimal (e .counts .disagreeing) ∷ decimal (e .counts .compared) ∷ []),
-      decimal-few (e .frame) 0 (omega (arith, h .frame)),
+      decimal-few 0 (e .frame) (omega (arith, h .frame)),
       integer-few (e .shift .x) 3 (omega (arith, h .across)),
       integer-few (e .shift .y) 3 (omega (arith, h .down)),
-      decimal-few (e .counts .disagreeing) 3 (omega (arith, h .disagreeing)),
-      decimal-few (e .counts .compared) 3 (omega (arith, h .compared)),
+      decimal-few 3 (e .counts .disagreeing) (omega (arith, h .disagreeing)),
+      decimal-few 3 (e .counts .compared) (omega (arith, h .compared)),
     )
 
 lines-few : (l : List Record) → ((e : Record) → List·Memᴰ e l → Short e) → length (recordLines l) ≤ length l * 24
@@ -113,11 +93,11 @@ module _ (a : Stack) (few : Few a) where
         arith,
         length-append (frameLine k s (verdict a inputTerms k) (length l)) (recordLines l),
         line-long (decimal k) (integer (s .x) ∷ integer (s .y) ∷ verdictWord (verdict a inputTerms k) ∷ decimal (length l) ∷ []),
-        decimal-few k 0 (omega (arith, few .most)),
+        decimal-few 0 k (omega (arith, few .most)),
         integer-few (s .x) 5 (omega (arith, within .across)),
         integer-few (s .y) 5 (omega (arith, within .down)),
         word-few (verdict a inputTerms k),
-        decimal-few (length l) 0 (omega arith),
+        decimal-few 0 (length l) (omega arith),
         lines-few l (λ e m. short a few e (of-report k h e m)),
       )
 
@@ -145,11 +125,11 @@ module _ (a : Stack) (few : Few a) where
         length-append (heading (a .frames) r) (joined (a .frames) (frameText a inputTerms)),
         line-long (ascii "frames") (decimal (a .frames) ∷ ascii "crop" ∷ decimal (r .x) ∷ decimal (r .y) ∷ decimal (r .width) ∷ decimal (r .height) ∷ []),
         known,
-        decimal-few (a .frames) 0 (omega (arith, few .most)),
-        decimal-few (r .x) 5 (omega arith),
-        decimal-few (r .y) 5 (omega arith),
-        decimal-few (r .width) 1 (omega arith),
-        decimal-few (r .height) 1 (omega arith),
+        decimal-few 0 (a .frames) (omega (arith, few .most)),
+        decimal-few 5 (r .x) (omega arith),
+        decimal-few 5 (r .y) (omega arith),
+        decimal-few 1 (r .width) (omega arith),
+        decimal-few 1 (r .height) (omega arith),
         joined-sum (a .frames) (frameText a inputTerms),
         sum-le (a .frames) 54 (λ (k : ℕ). length (frameText a inputTerms k)) frame-few,
         few .most,
@@ -163,7 +143,7 @@ bad-few = omega arith
 
 refusal-few : length (refusalText 5) ≤ 8192
 unfolding refusalText line ascii
-refusal-few = omega (arith, length-append (decimal 5) (ascii "\n"), decimal-few 5 0 (omega arith))
+refusal-few = omega (arith, length-append (decimal 5) (ascii "\n"), decimal-few 0 5 (omega arith))
 
 pub text-fits : (input : List ℕ) → length (text input) ≤ 8192
 text-fits input = ⊎-elim

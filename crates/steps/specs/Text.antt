@@ -7,8 +7,8 @@ use mathlib.Core.List.{List, [], _∷_, _++_}
 use lib.Dec.{ltb, eqb}
 use lib.IntN.{ℤ, pos, negsuc}
 use lib.ListN.{length, replicate}
-use Rattle.io.specs.Digits.{digits}
 use Rattle.definitions.specs.Build.{joined}
+use Rattle.definitions.specs.Decimal.{decimal}
 use Rattle.definitions.specs.Geometry.{Shift, Rect}
 use Rattle.definitions.specs.Shrink.{average}
 use Rattle.definitions.specs.Align.{Options, Stack, stackOf, shiftOf}
@@ -20,15 +20,6 @@ use Rattle.definitions.specs.Report.{Terms, Record, frameRecords, verdict, repo
 unfoldable pub ascii : String → List ℕ
 ascii []ˢ = []
 ascii (c ∷ˢ s) = code c ∷ ascii s
-
--- How many decimal digits a number up to `most` has, at least one.
-unfoldable pub placesUpTo : ℕ → ℕ → ℕ
-placesUpTo zero n = 1
-placesUpTo (suc most) n = cond (ltb n 10) 1 (suc (placesUpTo most (n / 10)))
-
--- A number in decimal digits, with no 0 in front.
-unfoldable pub decimal : ℕ → List ℕ
-decimal n = digits 10 (placesUpTo n n) n
 
 -- A whole number, with a minus sign where it is negative.
 unfoldable pub integer : ℤ → List ℕ

@@ -4,7 +4,8 @@ ghost use mathlib.Core.List.{[], _∷_, _++_};
 ghost use Prim.Native.Nat.{_≤_};
 ghost use lib.IntN.{natAbs};
 ghost use lib.ListN.{length};
-ghost use Rattle.steps.specs.Text.{ascii, decimal, integer};
+ghost use Rattle.definitions.specs.Decimal.{decimal};
+ghost use Rattle.steps.specs.Text.{ascii, integer};
 ghost use Rattle.steps.specs.Inner.{Put};
 
 // The answer of each function that puts text is where the next byte goes.

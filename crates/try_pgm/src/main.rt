@@ -1,11 +1,13 @@
 // Aligns a bracket from a PGM file and reports on it, and does the same with the frames lent directly. The input is the file, four images
 // of 64 by 64, and behind it the samples of these frames without headers. Prints the report of the file's frames, and whether both ways
-// have the same shifts and the same report.
+// have the same shifts and the same report. Then writes the frames one behind another, and prints whether what is read of that is the
+// bracket, and how many bytes both files have.
 use mtb_align::align::Options;
 use mtb_align::error::Outcome;
 use mtb_align::report::ReportAnswer;
 use mtb_align::report::Terms;
 use mtb_align::shrink::Shrink;
+use pgm::WriteAnswer;
 use pgm::stack::StackRead;
 
 const SIDE: usize = 64;
@@ -14,7 +16,9 @@ const FRAMES: usize = 4;
 
 const SHIFTS: usize = 2 * FRAMES;
 
-const SAMPLES: usize = FRAMES * SIDE * SIDE;
+const FRAME: usize = SIDE * SIDE;
+
+const SAMPLES: usize = FRAMES * FRAME;
 
 // Room for a file with long headers, and the frames.
 const INPUT: usize = 3 * SAMPLES;
@@ -151,6 +155,65 @@ fn reported_alike(widths: &[usize], heights: &[usize], samples: &[u8], lent: &[u
         && same_records(&records, &lent_records)
 }
 
+// Writes frame k behind what is written already; where it ends, or 0 where it does not fit.
+fn one_written(samples: &[u8], k: usize, file: &mut [u8], at: usize) -> usize {
+    if k >= FRAMES {
+        return 0;
+    }
+    if samples.len() != SAMPLES {
+        return 0;
+    }
+    if at > file.len() {
+        return 0;
+    }
+    let start = k * FRAME;
+    match pgm::write(&samples[start..start + FRAME], SIDE, SIDE, &mut file[at..]) {
+        WriteAnswer::Written(length) => {
+            if length > file.len() - at {
+                return 0;
+            }
+            at + length
+        }
+        WriteAnswer::Refused(_) => 0,
+    }
+}
+
+// Writes the four frames one behind another; where the last one ends.
+fn all_written(samples: &[u8], file: &mut [u8]) -> usize {
+    let first = one_written(samples, 0, file, 0);
+    let second = one_written(samples, 1, file, first);
+    let third = one_written(samples, 2, file, second);
+    one_written(samples, 3, file, third)
+}
+
+// What is read of a file is this bracket, up to the file's end.
+fn is_bracket(file: &[u8], bracket: &[u8]) -> bool {
+    let mut widths = [0usize; FRAMES];
+    let mut heights = [0usize; FRAMES];
+    let mut samples = [0u8; SAMPLES];
+    match pgm::stack::read_stack(file, 0, &mut widths, &mut heights, &mut samples) {
+        StackRead::Laid(next) => next == file.len() && check::same(&samples, bracket),
+        StackRead::Refused(_) => false,
+    }
+}
+
+// Writes the bracket of a file of so many bytes, and says whether it is read back.
+fn say_written(samples: &[u8], length: usize) {
+    let mut file = [0u8; INPUT];
+    let end = all_written(samples, &mut file);
+    if end > INPUT {
+        return;
+    }
+    if !is_bracket(&file[0..end], samples) {
+        io::write_all(1, b"not ");
+    }
+    io::write_all(1, b"read back from ");
+    io::print_decimal(1, end as u64);
+    io::write_all(1, b" bytes, of ");
+    io::print_decimal(1, length as u64);
+    io::write_all(1, b"\n");
+}
+
 fn print_report(samples: &[u8]) {
     let mut text = [0u8; 8192];
     let end = steps::put_text(samples, &mut text);
@@ -177,6 +240,7 @@ fn run(input: &[u8]) {
                 let lent = &input[next..];
                 say(b"shifts", aligned_alike(&widths, &heights, &samples, lent));
                 say(b"report", reported_alike(&widths, &heights, &samples, lent));
+                say_written(&samples, next);
             }
         }
         StackRead::Refused(e) => {

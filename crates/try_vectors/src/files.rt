@@ -1,10 +1,12 @@
-// read_pgm, read_stack. The file is loaded; the numbers go on with the place.
+// read_pgm, read_stack, write_pgm. The file or the samples are loaded; the numbers go on with the place or the size.
 use super::FRAMES;
 use super::SAMPLES;
 use pgm::Image;
 use pgm::PgmAnswer;
 use pgm::PgmError;
+use pgm::WriteAnswer;
 use pgm::stack::StackRead;
+use replay::answers::bytes_listed;
 use replay::answers::words_of;
 use replay::at;
 use replay::marked_bytes;
@@ -143,4 +145,27 @@ pub(crate) fn read_stack(numbers: &[u64], file: &[u8], samples: &mut [u8]) -> bo
         samples,
         len,
     )
+}
+
+// The numbers are those of the file, which the answer says the length of.
+fn file_agrees(numbers: &[u64], answer: WriteAnswer, file: &[u8]) -> bool {
+    match answer {
+        WriteAnswer::Written(length) => {
+            if length > file.len() {
+                return false;
+            }
+            bytes_listed(numbers, &file[0..length]) && marked_bytes(&file[length..])
+        }
+        WriteAnswer::Refused(e) => refusal_agrees(numbers, e) && marked_bytes(file),
+    }
+}
+
+// The buffer is lent marked, and longer than the line says: past the file it still has the mark, and all of it where the call is refused.
+pub(crate) fn write_pgm(numbers: &[u64], samples: &[u8], file: &mut [u8]) -> bool {
+    let room = at(numbers, 2);
+    if room > file.len() {
+        return false;
+    }
+    let answer = pgm::write(samples, at(numbers, 0), at(numbers, 1), &mut file[0..room]);
+    file_agrees(rest(numbers, 3), answer, file)
 }

@@ -75,6 +75,7 @@ fn on_loaded(numbers: &[u64], call: usize, samples: &[u8]) -> bool {
         16 => align::shift(numbers, samples),
         19 => files::read_pgm(numbers, samples),
         20 => files::read_stack(numbers, samples, &mut out),
+        21 => files::write_pgm(numbers, samples, &mut out),
         _ => on_stack(numbers, call, samples),
     }
 }
@@ -113,7 +114,7 @@ fn agrees(numbers: &[u64]) -> bool {
     let call = at(numbers, 0);
     let asked = rest(numbers, 1);
     match call {
-        1..=7 | 16..=20 => on_samples(asked, call),
+        1..=7 | 16..=21 => on_samples(asked, call),
         8..=11 => on_bitmap(asked, call),
         12 => difference::disagreement(asked),
         13 => geometry::doubled(asked),

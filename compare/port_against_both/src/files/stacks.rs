@@ -21,17 +21,17 @@ use crate::whole::{reported, stepped};
 
 /// What a caller passes: a file, the place of the first image, and the lengths of the lists.
 #[derive(Clone, Copy)]
-struct Asked<'a> {
-    file: &'a [u8],
-    at: usize,
-    widths: usize,
-    heights: usize,
-    samples: usize,
+pub struct Asked<'a> {
+    pub file: &'a [u8],
+    pub at: usize,
+    pub widths: usize,
+    pub heights: usize,
+    pub samples: usize,
 }
 
 impl<'a> Asked<'a> {
     /// Lists that are exact for these images.
-    fn exact(file: &'a [u8], at: usize, images: &[Image]) -> Self {
+    pub fn exact(file: &'a [u8], at: usize, images: &[Image]) -> Self {
         Self {
             file,
             at,
@@ -42,7 +42,7 @@ impl<'a> Asked<'a> {
     }
 
     /// What these images of the file come to.
-    fn made(&self, images: &[Image]) -> Laid {
+    pub fn made(&self, images: &[Image]) -> Laid {
         let samples = |image: &Image| &self.file[image.start..image.next];
         Laid {
             widths: images.iter().map(|image| image.width).collect(),
@@ -95,7 +95,7 @@ fn laid(random: &mut Random, asked: &Asked) -> Result<Result<Laid, u32>, String>
     })
 }
 
-fn lays(random: &mut Random, asked: &Asked, meant: &Result<Laid, u32>) -> Outcome {
+pub fn lays(random: &mut Random, asked: &Asked, meant: &Result<Laid, u32>) -> Outcome {
     let found = laid(random, asked)?;
     let input = shown(asked.file, asked.at);
     same(input, ("port", &found), ("meant", meant))
@@ -105,7 +105,7 @@ fn lays(random: &mut Random, asked: &Asked, meant: &Result<Laid, u32>) -> Outcom
 pub const MOST_IMAGES: usize = MOST_FRAMES + 1;
 
 /// One too many and, if there is one, one too few.
-fn one_off(length: usize) -> impl Iterator<Item = usize> {
+pub fn one_off(length: usize) -> impl Iterator<Item = usize> {
     [Some(length + 1), length.checked_sub(1)]
         .into_iter()
         .flatten()

@@ -4,7 +4,7 @@ use mathlib.Core.Path.{_≡_, refl, sym, ap, subst, _∙_}
 use mathlib.Core.Bool.{Bool, true, false, cond, not, _||_}
 use mathlib.Core.List.{List, [], _∷_, _++_, map, append-nil, List·Memᴰ, List·Memᴰ·not-nil, List·Memᴰ·cases-cons}
 use mathlib.Core.Logic.{⊎-elim}
-use Prim.Native.Nat.{ℕ, _+_, _*_, _<_, _≤_}
+use Prim.Native.Nat.{ℕ, _+_, _*_, _<_, _≤_, max}
 use native.Mathlib.Numerals.{add-one}
 use native.Mathlib.Omega.{arith}
 use lib.Dec.{ltb}
@@ -13,7 +13,7 @@ use lib.Seq.{drop-cons}
 use borrow.Author.Tests.{lt-ltb, le-ltb, le-leb, lt-leb, eq-eqb, ne-eqb, ltb-true, ltb-false}
 use Rattle.definitions.specs.Bitmap.{paddingSet}
 use Rattle.definitions.specs.Refusals.{Check, Answer, accepted, refused, answer, after, sideOver, eitherOver, wrongLength, percentileOver, scratchShort, padded, spaceShort, pixelOutside, reportChecks}
-use Rattle.laws.specs.general.Cases.{clash}
+use Rattle.laws.specs.general.Cases.{lt-or-le, clash}
 
 -- an answer is not both
 pub not-both {ℓ} : {A : Type 0} {X : Type ℓ} {a : A} {n : ℕ} {v : List ℕ} → accepted a ≡ refused n v → X
@@ -228,6 +228,16 @@ module _ {A : Type 0} (a : A) where
 
   pub sides-skip : (w h : ℕ) (l : List Check) {r : Answer A} → (w ≤ 8192) × (h ≤ 8192) → r ≡ answer l a → r ≡ answer (sideOver w ∷ sideOver h ∷ l) a
   sides-skip w h l p q = side-skip w (sideOver h ∷ l) (p .0) (side-skip h l (p .1) q)
+
+  -- both sides by the longest
+  pub longest-stop : (w h : ℕ) (l : List Check) → 8192 < max w h → refused 1 [] ≡ answer (sideOver w ∷ sideOver h ∷ l) a
+  longest-stop w h l m = ⊎-elim
+      (λ (k : 8192 < w). side-stop w (sideOver h ∷ l) k)
+      (λ (k : w ≤ 8192). side-skip w (sideOver h ∷ l) k (side-stop h l (omega arith)))
+      (lt-or-le 8192 w)
+
+  pub longest-skip : (w h : ℕ) (l : List Check) {r : Answer A} → max w h ≤ 8192 → r ≡ answer l a → r ≡ answer (sideOver w ∷ sideOver h ∷ l) a
+  longest-skip w h l m q = sides-skip w h l (omega arith, omega arith) q
 
 pub sides-within : (w h : ℕ) → eitherOver w h ≡ false → (w ≤ 8192) × (h ≤ 8192)
 unfolding eitherOver

@@ -5,7 +5,7 @@ use Prim.Native.Nat.{ℕ, _-_, _<_, _≤_}
 use native.Mathlib.Omega.{arith}
 use Rattle.laws.specs.images.Sizes.{area}
 use Rattle.pgm_format.specs.Pgm.{Image, imageFrom}
-use Rattle.pgm_format.specs.SizeChecks.{longest-stop, highest-stop, short-stop, all-pass}
+use Rattle.pgm_format.specs.SizeChecks.{over-stop, highest-stop, short-stop, all-pass}
 use Rattle.pgm.specs.declared.header.Head.{Head}
 use Rattle.pgm.proofs.Images.{sizesOf}
 use Rattle.pgm.proofs.image_of.Statement.{statement}
@@ -18,7 +18,7 @@ returns : tie.Need-returns
 returns c =
     let l = c .before in
     let a = l .before .args in
-    longest-stop (image (a .head)) (sizesOf (a .head)) (a .length - a .head .start) (subst (λ (n : ℕ). 8192 < n) (l .larger .ensures) (c .if1 .taken))
+    over-stop (image (a .head)) (sizesOf (a .head)) (a .length - a .head .start) (subst (λ (n : ℕ). 8192 < n) (l .larger .ensures) (c .if1 .taken))
 
 returns-2 : tie.Need-returns-2
 returns-2 c =

@@ -3,7 +3,7 @@ use mathlib.Core.Path.{sym, ap, _∙_}
 use mathlib.Core.Bool.{Bool, _&&_}
 use lib.Dec.{leb}
 use borrow.Author.Tests.{le-leb, lt-leb}
-use Rattle.pgm_format.specs.Pgm.{isDigit}
+use Rattle.definitions.specs.Decimal.{isDigit}
 use Rattle.pgm.proofs.header.is_digit.Statement.{statement}
 use Rattle.pgm.proofs.header.is_digit.Tie as tie
 

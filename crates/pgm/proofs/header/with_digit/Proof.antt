@@ -1,6 +1,6 @@
 -- A digit is 48 at least, so that the difference is its value.
 use borrow.Author.Needs.{needs}
-use Rattle.pgm_format.specs.Fronts.{digit-range}
+use Rattle.laws.specs.general.Decimals.{digit-range}
 use Rattle.pgm.proofs.header.with_digit.Statement.{statement}
 use Rattle.pgm.proofs.header.with_digit.Tie as tie
 

@@ -1,12 +1,11 @@
 -- The loop keeps: the lists as they are, with what is left of the run stored behind what is laid out, are the whole run's.
 use mathlib.Core.Path.{_≡_, sym, _∙_}
-use Prim.Native.Nat.{_+_, _-_, _≤_}
+use Prim.Native.Nat.{_+_, _-_, _<_, _≤_}
 use native.Mathlib.Omega.{arith}
 use lib.ListN.{length}
-use borrow.Rule.Slice.PartMut.{mid-len}
 use Rattle.pgm_format.specs.Pgm.{samplesOf}
 use Rattle.pgm.specs.Answers.{imageIn}
-use Rattle.pgm.proofs.Laying.{Laid, part-copied, none-laid, kept-widths, kept-heights, kept-samples, one-passes, one-fits, one-laid, all-laid}
+use Rattle.pgm.proofs.Laying.{Laid, none-laid, kept-widths, kept-heights, kept-samples, one-passes, one-fits, one-laid, all-laid}
 use Rattle.pgm.proofs.stack.lay.Statement.{statement}
 use Rattle.pgm.proofs.stack.lay.Tie as tie
 
@@ -38,30 +37,22 @@ part-is c = c .samples .ensures
 fits : (c : tie.After-samples Inv-loop μ-loop) → let l = c .before .before .before .loop in l .from + length (c .samples .result .now) ≤ length (l .samples)
 fits c = let d = c .before .before .before .loop .inv in one-fits d (omega (arith, kept-widths d)) (c .before .image-at .ensures) (part-is c)
 
-add-to : tie.Need-add-to Inv-loop μ-loop
-add-to c = omega (arith, fits c, kept (c .before .before .before))
+-- so where the next image's samples go is a place of a buffer
+small : (c : tie.After-samples Inv-loop μ-loop) → c .before .before .before .loop .from + length (c .samples .result .now) < 18446744073709551616
+small c = omega (arith, fits c, kept (c .before .before .before))
 
-part-copy-start : tie.Need-part-copy-start Inv-loop μ-loop
-part-copy-start c = omega arith
+put-samples-requires : tie.Need-put-samples-requires Inv-loop μ-loop
+put-samples-requires c κs = fits (c .before)
 
-part-copy-end : tie.Need-part-copy-end Inv-loop μ-loop
-part-copy-end c = fits c
-
-copy-requires : tie.Need-copy-requires Inv-loop μ-loop
-copy-requires c κs =
-    let l = c .before .before .before .before .loop in
-    omega (arith, mid-len (l .from) (l .from + length (c .before .samples .result .now)) (l .samples) (fits (c .before)))
+add-from : tie.Need-add-from Inv-loop μ-loop
+add-from c = omega (arith, small (c .before .before .before .before))
 
 loop-again : tie.Need-loop-again Inv-loop μ-loop
 loop-again c =
-    let a = c .before .before .before .before in
+    let b = c .before .before in
+    let a = b .before .before in
     let l = a .before .before .before .loop in
-    one-laid
-    (l .inv)
-    (omega (arith, kept-widths (l .inv)))
-    (a .before .image-at .ensures)
-    (part-is a)
-    (part-copied (l .samples) (a .samples .result .now) (l .from) (l .from + length (a .samples .result .now)) (omega arith) (fits a) (c .before .before .copy .ensures .1))
+    one-laid (l .inv) (omega (arith, kept-widths (l .inv))) (a .before .image-at .ensures) (part-is a) (b .put-samples .ensures)
 
 returns : tie.Need-returns Inv-loop μ-loop
 returns c = all-laid (c .before .loop .inv) (omega (arith, kept-widths (c .before .loop .inv)))
@@ -79,11 +70,8 @@ lay-spec =
     (λ c. omega (arith, kept-widths (c .before .before .loop .inv)))
     slice-write-heights
     (λ c κs. tt)
-    add-to
-    (λ c. omega arith)
-    part-copy-start
-    part-copy-end
-    copy-requires
+    put-samples-requires
+    add-from
     (λ c. omega (arith, kept-widths (c .before .before .before .before .before .before .before .loop .inv)))
     (λ c. omega (arith, kept-widths (c .before .before .before .before .before .before .before .loop .inv)))
     loop-again

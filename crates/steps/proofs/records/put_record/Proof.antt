@@ -2,7 +2,8 @@ use mathlib.Core.Path.{ap}
 use mathlib.Core.List.{_++_}
 use Prim.Native.Nat.{ℕ}
 use borrow.Author.Needs.{needs}
-use Rattle.steps.specs.Text.{ascii, decimal, integer, line, recordLine}
+use Rattle.definitions.specs.Decimal.{decimal}
+use Rattle.steps.specs.Text.{ascii, integer, line, recordLine}
 use Rattle.definitions.specs.Report.{signedOf, recordAt}
 use Rattle.steps.proofs.Puts.{put-then, put-as}
 use Rattle.steps.proofs.records.put_record.Statement.{statement}

@@ -4,7 +4,8 @@ use Prim.Native.Nat.{ℕ}
 use borrow.Author.Needs.{needs}
 use lib.IntN.{natAbs}
 use mir.Facts.{toZ-ofZ}
-use Rattle.steps.specs.Text.{ascii, decimal}
+use Rattle.definitions.specs.Decimal.{decimal}
+use Rattle.steps.specs.Text.{ascii}
 use Rattle.steps.proofs.Numbers.{integer-below, integer-above, sign-below, sign-above}
 use Rattle.steps.proofs.Puts.{put-as}
 use Rattle.steps.proofs.text.put_coordinate.Statement.{statement}
