@@ -97,12 +97,12 @@ fn put_bytes(buffer: &mut [u8], at: usize, bytes: &[u8])
 }
 
 // The most samples that are put at once.
-const BLOCK: usize = 327680;
+const BLOCK: usize = 2097152;
 
 // Puts up to a block of bytes into a buffer from a place on. They go by way of an array of its own, which is known to lie apart from both:
 // so it is compiled to one call of memmove from the one to the other, and the array is left out.
 fn put_block(buffer: &mut [u8], at: usize, bytes: &[u8])
-    requires { ⌜ (length (now bytes) ≤ 327680) × (at + length (now bytes) ≤ length (now buffer)) ⌝ }
+    requires { ⌜ (length (now bytes) ≤ 2097152) × (at + length (now bytes) ≤ length (now buffer)) ⌝ }
     ensures { λ _. ⌜ now (buffer .exit) ≡ sets (now (buffer .entry)) at (now (bytes .entry)) ⌝ }
 {
     let mut block = [0u8; BLOCK];

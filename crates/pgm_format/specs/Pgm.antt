@@ -204,7 +204,7 @@ pub record Within (f : Frame) : Type 0 where
   pub low : f .height ≤ 8192
   pub counted : length (f .samples) ≡ f .width * f .height
 
--- P5, line feed, width, space, height, line feed, 255, line feed.
+-- P5, line feed, width, blank, height, line feed, 255, line feed.
 unfoldable pub headerBytes : ℕ → ℕ → List ℕ
 headerBytes w h = 80 ∷ 53 ∷ 10 ∷ (decimal w ++ (32 ∷ (decimal h ++ (10 ∷ 50 ∷ 53 ∷ 53 ∷ 10 ∷ []))))
 

@@ -27,9 +27,9 @@ line-feed : isWhite 10 ≡ true
 unfolding isWhite
 line-feed = refl
 
-space : isWhite 32 ≡ true
+blank : isWhite 32 ≡ true
 unfolding isWhite
-space = refl
+blank = refl
 
 three-digits : decimal 255 ≡ 50 ∷ 53 ∷ 53 ∷ []
 unfolding decimal digitsUpTo
@@ -44,7 +44,7 @@ header-written w h = record {
   last = 10;
   parts = refl;
   width = field 10 line-feed (decimal-numeral w);
-  height = field 32 space (decimal-numeral h);
+  height = field 32 blank (decimal-numeral h);
   highest = field 10 line-feed (subst (λ (d : List ℕ). Numeral d 255) three-digits (decimal-numeral 255));
   ends = line-feed;
 }
@@ -160,9 +160,9 @@ pub record Rewritten (file : List ℕ) (at : ℕ) (i : Image) : Type 0 where
   pub taken : (room : ℕ) → length (pgm (frameOf file i)) ≤ room → write (frameOf file i) room ≡ accepted (length (pgm (frameOf file i)))
   -- it is read of its file, at any place
   pub read-too : (a b : List ℕ) → read (a ++ (pgm (frameOf file i) ++ b)) (length a) ≡ accepted (imageOf (length a) (frameOf file i))
-  -- and what is read there is written as the same bytes
+  -- and what is read there is the same frame, written as the same bytes
   pub again : (a b : List ℕ) → let second = a ++ (pgm (frameOf file i) ++ b) in
-      (j : Image) → read second (length a) ≡ accepted j → pgm (frameOf second j) ≡ pgm (frameOf file i)
+      (j : Image) → read second (length a) ≡ accepted j → (frameOf second j ≡ frameOf file i) × (pgm (frameOf second j) ≡ pgm (frameOf file i))
   -- which are no more than the image took
   pub never-more : at + length (pgm (frameOf file i)) ≤ i .next
 
@@ -175,7 +175,8 @@ rewritten file at i e =
       taken = λ room h. writes f room .taken (length (pgm f)) .1 (k, h, refl);
       read-too = λ a b. read-back f a b k .0;
       again = λ a b j q. let r = read-back f a b k in
-          ap (λ (m : Image). pgm (frameOf (a ++ (pgm f ++ b)) m)) (same-value (sym q ∙ r .0)) ∙ ap pgm (r .1);
+          let same : frameOf (a ++ (pgm f ++ b)) j ≡ f = ap (frameOf (a ++ (pgm f ++ b))) (same-value (sym q ∙ r .0)) ∙ r .1 in
+          (same, ap pgm same);
       never-more = omega (arith, pgm-long f, header-least (image .header .header), image .starts, image .ends, ap length samples);
     }
   where

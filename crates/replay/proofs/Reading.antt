@@ -9,6 +9,7 @@ use borrow.Author.Tests.{lt-ltb, le-ltb, le-leb, lt-leb, eq-eqb, ne-eqb}
 use lib.Dec.{leb, eqb}
 use lib.ListN.{length, getD, drop, set, drop-of-length-le}
 use lib.Seq.{sets, length-sets, drop-cons}
+use Rattle.definitions.specs.Decimal.{isDigit}
 use Rattle.replay.specs.Lines.{withDigit, grown, number, numbersFrom, numbersOf, lineLength}
 use Rattle.laws.specs.general.Cases.{cond-true, cond-false, and-yes, and-no}
 
@@ -23,15 +24,15 @@ unfolding withDigit
 digit-past n d h = cond-false (n * 10 + d) 0 (le-ltb (n * 10 + d) 18446744073709551616 h)
 
 pub grown-below : (n c : ℕ) → c < 48 → grown n c ≡ n
-unfolding grown
+unfolding isDigit grown
 grown-below n c h = cond-false (withDigit n (c - 48)) n (ap (λ (t : Bool). t && leb c 57) (lt-leb 48 c h))
 
 pub grown-above : (n c : ℕ) → 57 < c → grown n c ≡ n
-unfolding grown
+unfolding isDigit grown
 grown-above n c h = cond-false (withDigit n (c - 48)) n (and-no (leb 48 c) (lt-leb c 57 h))
 
 pub grown-digit : (n c : ℕ) → 48 ≤ c → c ≤ 57 → grown n c ≡ withDigit n (c - 48)
-unfolding grown
+unfolding isDigit grown
 grown-digit n c h l = cond-true (withDigit n (c - 48)) n (and-yes (le-leb 48 c h) (le-leb c 57 l))
 
 -- ---- a character of the line

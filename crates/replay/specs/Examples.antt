@@ -3,13 +3,14 @@ use mathlib.Core.Path.{_≡_, refl}
 use mathlib.Core.Bool.{true}
 use mathlib.Core.List.{[], _∷_}
 use lib.IntN.{pos, negsuc}
+use Rattle.definitions.specs.Decimal.{isDigit}
 use Rattle.replay.specs.Lines.{withDigit, grown, number, numbersFrom, numbersOf, lineLength}
 use Rattle.definitions.specs.Report.{fieldOf}
 use Rattle.replay.specs.Lists.{coordinateOf}
 
 -- "12 -3", a line's end, and "7", which has none
 two-numbers : (numbersOf (49 ∷ 50 ∷ 32 ∷ 45 ∷ 51 ∷ 10 ∷ 55 ∷ []) ≡ 12 ∷ 9223372036854775811 ∷ []) × (lineLength (49 ∷ 50 ∷ 32 ∷ 45 ∷ 51 ∷ 10 ∷ 55 ∷ []) ≡ 6)
-unfolding withDigit grown number numbersFrom lineLength
+unfolding isDigit withDigit grown number numbersFrom lineLength
 two-numbers = (refl, refl)
 
 -- -3 as it is read; the least coordinate, and one too low

@@ -1,8 +1,9 @@
 -- The numbers that a line of text holds. A text is a list of ASCII codes.
 use Prim.Native.Nat.{ℕ, suc, _+_, _-_, _*_, _%_}
-use mathlib.Core.Bool.{Bool, false, cond, _&&_, _||_}
+use mathlib.Core.Bool.{Bool, false, cond, _||_}
 use mathlib.Core.List.{List, [], _∷_}
-use lib.Dec.{ltb, leb, eqb}
+use lib.Dec.{ltb, eqb}
+use Rattle.definitions.specs.Decimal.{isDigit}
 
 -- A number and one digit more, or 0 where that passes 64 bits.
 unfoldable pub withDigit : ℕ → ℕ → ℕ
@@ -10,7 +11,7 @@ withDigit n digit = cond (ltb (n * 10 + digit) 18446744073709551616) (n * 10 + d
 
 -- A number as a character carries it on: a digit does, and nothing else.
 unfoldable pub grown : ℕ → ℕ → ℕ
-grown n c = cond (leb 48 c && leb c 57) (withDigit n (c - 48)) n
+grown n c = cond (isDigit c) (withDigit n (c - 48)) n
 
 -- A number of either sign as 64 bits: 2^63 is added to a negative one's magnitude.
 unfoldable pub number : Bool → ℕ → ℕ

@@ -82,14 +82,24 @@ pub fn frame(random: &mut Random, case: usize) -> Outcome {
 const SIDES: [usize; 9] = [0, 1, 9, 10, 99, 100, 999, 1000, LONGEST_SIDE];
 /// All pairs of them but the last: the largest frame is written above, and in `threads`.
 const PAIRS_OF_SIDES: usize = SIDES.len() * SIDES.len() - 1;
-/// The port copies blocks of 327,680 samples: one and two of them, and one sample more.
-const BLOCKS: [(usize, usize); 4] = [(8192, 40), (1583, 207), (8192, 80), (1757, 373)];
-pub const SIZES: usize = PAIRS_OF_SIDES + BLOCKS.len();
+/// The port copies blocks of 2,097,152 samples: one of them, one sample less and one more, two,
+/// and one more than two; then usual sizes.
+const OTHERS: [(usize, usize); 8] = [
+    (2359, 889),
+    (256, 8192),
+    (5419, 387),
+    (8192, 512),
+    (2113, 1985),
+    (64, 64),
+    (640, 480),
+    (1920, 1080),
+];
+pub const SIZES: usize = PAIRS_OF_SIDES + OTHERS.len();
 
 /// Two sides, with buffers that are exact, longer, one short and empty.
 pub fn sides(random: &mut Random, case: usize) -> Outcome {
     let (width, height) = match case.checked_sub(PAIRS_OF_SIDES) {
-        Some(number) => BLOCKS[number],
+        Some(number) => OTHERS[number],
         None => (SIDES[case % SIDES.len()], SIDES[case / SIDES.len()]),
     };
     let samples = random.bytes(width * height);

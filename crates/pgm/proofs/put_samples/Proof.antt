@@ -30,7 +30,7 @@ part-put old s at done e h k p q =
 loop-holds : tie.Need-loop-holds Inv-loop μ-loop
 loop-holds c = (omega arith, refl)
 
-inside : (c : tie.In-loop Inv-loop μ-loop) → c .before .loop .done + 327680 ≤ length (c .before .before .before .before .args .samples .now)
+inside : (c : tie.In-loop Inv-loop μ-loop) → c .before .loop .done + 2097152 ≤ length (c .before .before .before .before .args .samples .now)
 inside c = omega (arith, c .loop-test .taken)
 
 long : (c : tie.At-loop Inv-loop μ-loop) → length (c .loop .buffer) ≡ length (c .before .before .before .args .buffer .now)
@@ -42,14 +42,14 @@ loop-again c =
     let t = b .before .before .before in
     let l = t .before .loop in
     let a = t .before .before .before .before .args in
-    let h : l .done + 327680 ≤ length (a .samples .now) = inside t in
-    (h, part-put (a .buffer .now) (a .samples .now) (a .at) (l .done) (l .done + 327680) (omega arith) h (l .inv .1) (b .put-block .ensures))
+    let h : l .done + 2097152 ≤ length (a .samples .now) = inside t in
+    (h, part-put (a .buffer .now) (a .samples .now) (a .at) (l .done) (l .done + 2097152) (omega arith) h (l .inv .1) (b .put-block .ensures))
 
 put-block-requires : tie.Need-put-block-requires Inv-loop μ-loop
 put-block-requires c κs =
     let t = c .before .before in
     let s = t .before .before .before .before in
-    let m = mid-len (t .before .loop .done) (t .before .loop .done + 327680) (s .args .samples .now) (inside t) in
+    let m = mid-len (t .before .loop .done) (t .before .loop .done + 2097152) (s .args .samples .now) (inside t) in
     (omega (arith, m), omega (arith, m, inside t, long (t .before), s .pre))
 
 put-block-requires-2 : tie.Need-put-block-requires-2 Inv-loop μ-loop
