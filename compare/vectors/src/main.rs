@@ -24,6 +24,7 @@ use std::path::{Path, PathBuf};
 use std::process::ExitCode;
 use std::{env, fs};
 
+use naive::gray::Frame;
 use trials::inputs::Random;
 
 /// Fixed, since the files are kept.
@@ -122,8 +123,8 @@ fn stacksteps_inputs(files: &Files) -> Files {
     inputs
 }
 
-/// The same for the program that aligns a bracket from a file: the frames of `workshop` as
-/// images, each with another kind of header, and behind them as they are.
+/// The same for the program that aligns a bracket from a file, writes it and reads it back: the
+/// frames of `workshop` as images, each with another kind of header, and behind them as they are.
 fn bracket_input(files: &Files) -> Files {
     const HEADERS: [&[u8]; 4] = [
         b"P5\n64 64\n255\n",
@@ -137,9 +138,23 @@ fn bracket_input(files: &Files) -> Files {
     for (header, frame) in HEADERS.iter().zip(frames.chunks(64 * 64)) {
         input.extend([header, frame].concat());
     }
+    let had = input.len();
     input.extend(frames);
     let alike = ["shifts", "report"].map(|what| format!("{what} as of the frames lent directly\n"));
-    let output = [workshop("stdout"), alike.concat().as_bytes()].concat();
+    let written = frames.chunks(64 * 64).map(|samples| {
+        let file = naive::pgm::write(Frame::new(samples, 64, 64), usize::MAX);
+        file.expect("a frame").len()
+    });
+    let back = format!(
+        "read back from {} bytes, of {had}\n",
+        written.sum::<usize>()
+    );
+    let output = [
+        workshop("stdout"),
+        alike.concat().as_bytes(),
+        back.as_bytes(),
+    ]
+    .concat();
     let mut inputs = BTreeMap::new();
     insert(&mut inputs, "try_pgm", 3 * frames.len(), input, output);
     inputs

@@ -23,6 +23,7 @@ abbrev pub samplesIn : List Frame → List ℕ
 samplesIn [] = []
 samplesIn (f ∷ l) = f .samples ++ samplesIn l
 
+-- Each of some frames is within 01's limits.
 abbrev pub AllWithin : List Frame → Type 0
 AllWithin l = (f : Frame) → List·Memᴰ f l → Within f
 

@@ -187,12 +187,13 @@ partOf file start next = cond (leb start next && leb next (length file)) (take (
 unfoldable pub samplesOf : List ℕ → Image → List ℕ
 samplesOf file i = partOf file (i .start) (i .next)
 
--- The frame that an image is: its size and its samples.
+-- A frame: its size and its samples.
 pub record Frame : Type 0 where
   pub width : ℕ
   pub height : ℕ
   pub samples : List ℕ
 
+-- The frame that an image of a file is.
 unfoldable pub frameOf : List ℕ → Image → Frame
 frameOf file i = record { width = i .width; height = i .height; samples = samplesOf file i }
 

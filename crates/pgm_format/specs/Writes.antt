@@ -39,6 +39,7 @@ module _ {A : Type 0} (a : A) (f : Frame) (room : ℕ) where
 -- ---- the table
 
 module _ (f : Frame) (room : ℕ) where
+  -- a side over 8,192
   abbrev SideOver : Type 0
   SideOver = (8192 < f .width) ⊎ (8192 < f .height)
 
