@@ -142,8 +142,9 @@ uint32_t mtb_read_stack(const uint8_t *file, size_t file_length, size_t at,
 /* Writes a frame as a file to the front of `file`, in one form: P5, line feed, width, blank, height, line feed, 255, line feed, samples. The
    numbers are in decimal with no 0 in front, and there is no comment. So frames of the same size and samples, and no others, have the same
    bytes. mtb_read_pgm reads the frame back wherever its file stands, and an image that it accepted takes no more bytes written than it
-   took. `file` has room for the file or more; what lies past the file stays as it was. length is the file's length, so that another
-   image may be written to file + length. Refused: 1; 2 for samples, file. Writes file, length. */
+   took. file_length is how long the buffer `file` is: as long as the file that is written, or longer, and then what lies past that file stays
+   as it was. length is how long the file is, so that another image may be written to file + length. Refused: 1; 2 for samples, and for a
+   buffer that is too short. Writes file, length. */
 uint32_t mtb_write_pgm(const uint8_t *samples, size_t samples_length, size_t width, size_t height,
                        uint8_t *file, size_t file_length, size_t *length);
 

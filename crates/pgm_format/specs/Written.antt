@@ -109,16 +109,32 @@ same-file f g = (
 
 -- ---- the shortest
 
--- the digits of the header's three numbers are the shortest of their values
-pub shortest-numbers : (w h : ℕ) → let head = header-written w h in
-    Shortest (head .width .digits) w × Shortest (head .height .digits) h × Shortest (head .highest .digits) 255
-unfolding header-written field
-shortest-numbers w h =
-    (decimal-shortest w, decimal-shortest h, subst (λ (d : List ℕ). Shortest d 255) three-digits (decimal-shortest 255))
+-- a field has its gap and its digits, and these are no fewer than the number's
+field-digits : {l : List ℕ} {n : ℕ} (f : Field l n) → (1 + length (f .digits) ≤ length l) × (length (decimal n) ≤ length (f .digits))
+field-digits {l} {n} f = (omega (arith, f .apart, ap length (f .parts), length-append (f .gap) (f .digits)), decimal-shortest n .least (f .number))
 
-field-least : {l : List ℕ} {n : ℕ} → Field l n → 1 + length (decimal n) ≤ length l
-field-least {l} {n} f =
-    omega (arith, f .apart, decimal-shortest n .least (f .number), ap length (f .parts), length-append (f .gap) (f .digits))
+-- the bytes of a header beside the digits of its numbers are six at least
+header-digits : {l : List ℕ} {w h : ℕ} (r : Header l w h 255)
+    → (6 + length (r .width .digits) + length (r .height .digits) + length (r .highest .digits) ≤ length l)
+    × (length (decimal w) ≤ length (r .width .digits)) × (length (decimal h) ≤ length (r .height .digits)) × (3 ≤ length (r .highest .digits))
+header-digits r =
+    let w = field-digits (r .width) in
+    let h = field-digits (r .height) in
+    let t = field-digits (r .highest) in (
+      omega (
+        arith,
+        w .0,
+        h .0,
+        t .0,
+        ap length (r .parts),
+        length-append (r .wide) (r .high ++ (r .most ++ (r .last ∷ []))),
+        length-append (r .high) (r .most ++ (r .last ∷ [])),
+        length-append (r .most) (r .last ∷ []),
+      ),
+      w .1,
+      h .1,
+      omega (arith, t .1, ap length three-digits),
+    )
 
 pub header-long : (w h : ℕ) → length (headerBytes w h) ≡ 9 + length (decimal w) + length (decimal h)
 unfolding headerBytes
@@ -138,19 +154,21 @@ pgm-short f k = omega (arith, pgm-long f, k .counted, header-short (f .width) (f
 
 -- no header of the same numbers is shorter
 header-least : {l : List ℕ} {w h : ℕ} → Header l w h 255 → length (headerBytes w h) ≤ length l
-header-least {l} {w} {h} r =
-    omega (
-      arith,
-      field-least (r .width),
-      field-least (r .height),
-      field-least (r .highest),
-      ap length three-digits,
-      ap length (r .parts),
-      length-append (r .wide) (r .high ++ (r .most ++ (r .last ∷ []))),
-      length-append (r .high) (r .most ++ (r .last ∷ [])),
-      length-append (r .most) (r .last ∷ []),
-      header-long w h,
+header-least {l} {w} {h} r = omega (arith, header-digits r, header-long w h)
+
+-- So however the bytes of a written header are read as one, the digits of its three numbers are the shortest of their values.
+pub shortest-numbers : (w h : ℕ) (r : Header (headerBytes w h) w h 255)
+    → Shortest (r .width .digits) w × Shortest (r .height .digits) h × Shortest (r .highest .digits) 255
+shortest-numbers w h r =
+    let p = header-digits r in
+    let n = header-long w h in (
+      as-short (r .width .number) (omega (arith, p, n)),
+      as-short (r .height .number) (omega (arith, p, n)),
+      as-short (r .highest .number) (omega (arith, p, n, ap length three-digits)),
     )
+  where
+    as-short : {d : List ℕ} {n : ℕ} → Numeral d n → length d ≡ length (decimal n) → Shortest d n
+    as-short {n = n} a q = subst (λ (e : List ℕ). Shortest e n) (sym (decimal-shortest n .only a q)) (decimal-shortest n)
 
 -- ---- written again
 
