@@ -16,7 +16,7 @@ static void refused(uint32_t status) {
 
 /* A stack's lists. */
 static size_t frames, widths[MTB_MOST_FRAMES], heights[MTB_MOST_FRAMES], length;
-static uint8_t *samples;
+static uint8_t percentiles[MTB_MOST_FRAMES], *samples;
 
 /* Image by image up to the file's end, for their number and that of their samples; then all of them. */
 static void read_images(const uint8_t *file, size_t file_length) {
@@ -56,6 +56,9 @@ int main(int argc, char **argv) {
         take_frames(strtoul(argv[1], NULL, 10), strtoul(argv[2], NULL, 10));
     }
 
+    /* Each frame is cut at a percentile of its own; here all at the same. */
+    for (size_t k = 0; k < frames; k++) percentiles[k] = MTB_PERCENTILE;
+
     /* The frames of a stack are of one size, or it is refused. */
     size_t bytes_needed, words_needed, values[5];
     uint32_t status = mtb_scratch(frames > 0 ? widths[0] : 0, frames > 0 ? heights[0] : 0, MTB_BITS, &bytes_needed, &words_needed);
@@ -67,8 +70,8 @@ int main(int argc, char **argv) {
     size_t space = MTB_RECORD_SPACE(frames, reach <= MTB_MOST_REACH ? reach : 0);
     uint8_t *records = (uint8_t *)room(space);
     size_t left, top, wide, high, count;
-    status = mtb_report(widths, frames, heights, frames, samples, length, 0,
-                        MTB_BITS, MTB_TOLERANCE, MTB_PERCENTILE, MTB_AVERAGE, reach, 1, 0,
+    status = mtb_report(widths, frames, heights, frames, percentiles, frames, samples, length, 0,
+                        MTB_BITS, MTB_TOLERANCE, MTB_AVERAGE, reach, 1, 0,
                         shifts, 2 * frames, verdicts, frames, records, space,
                         bytes, bytes_needed, words, words_needed,
                         &left, &top, &wide, &high, &count, values);

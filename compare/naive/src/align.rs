@@ -8,17 +8,16 @@ use crate::geometry::Shift;
 use crate::gray::Frame;
 use crate::refusals::{
     MOST_FRAMES, NO_SUCH_REFERENCE, Refusal, SCRATCH_TOO_SHORT, SIZES_DIFFER, TOO_MANY_FRAMES,
-    WRONG_LENGTH, check_percentile, check_sides, refuse_if, refuse_with,
+    WRONG_LENGTH, check_percentiles, check_sides, refuse_if, refuse_with,
 };
 use crate::shrink::{Shrink, halved};
 use crate::threshold::BitFrame;
 
-/// How a search is run. Bits is any u32, tolerance any byte.
+/// How a search is run, whatever each frame is cut at. Bits is any u32, tolerance any byte.
 #[derive(Clone, Copy, Debug)]
 pub struct Options {
     pub bits: u32,
     pub tolerance: u8,
-    pub percentile: u8,
     pub shrink: Shrink,
 }
 
@@ -27,9 +26,21 @@ impl Options {
     pub const USUAL: Self = Self {
         bits: 6,
         tolerance: 4,
-        percentile: 50,
         shrink: Shrink::Average,
     };
+}
+
+/// A frame and the percentile that it is cut at, at every level.
+#[derive(Clone, Copy, Debug)]
+pub struct Exposure<'a> {
+    pub frame: Frame<'a>,
+    pub percentile: u8,
+}
+
+impl<'a> Exposure<'a> {
+    pub fn new(frame: Frame<'a>, percentile: u8) -> Self {
+        Self { frame, percentile }
+    }
 }
 
 /// The lengths of the scratch that a caller lends to a step, a stack or a report.
@@ -171,17 +182,18 @@ pub struct Step {
 
 /// Step of two frames: 1, 3, 4, 2, 7.
 pub fn shift(
-    reference: Frame,
-    target: Frame,
+    reference: Exposure,
+    target: Exposure,
     options: &Options,
     scratch: Scratch,
 ) -> Result<Step, Refusal> {
-    let Frame { width, height, .. } = reference;
-    let sizes = [width, height, target.width, target.height];
+    let frames = [reference.frame, target.frame];
+    let [width, height] = [frames[0].width, frames[0].height];
+    let sizes = [width, height, frames[1].width, frames[1].height];
     check_sides(&sizes)?;
-    check_percentile(options.percentile)?;
+    check_percentiles(&[reference.percentile, target.percentile])?;
     refuse_with(sizes[..2] != sizes[2..], SIZES_DIFFER, &sizes)?;
-    refuse_if(!reference.is_whole() || !target.is_whole(), WRONG_LENGTH)?;
+    refuse_if(!frames.iter().all(Frame::is_whole), WRONG_LENGTH)?;
     scratch.check(Scratch::of_step(width, height, options.bits))?;
     Ok(step(reference, target, options))
 }
@@ -199,14 +211,14 @@ fn candidates(around: Shift) -> Vec<Shift> {
     nine
 }
 
-fn step(reference: Frame, target: Frame, options: &Options) -> Step {
-    let seen = |frame: Frame| -> Vec<BitFrame> {
+fn step(reference: Exposure, target: Exposure, options: &Options) -> Step {
+    let seen = |Exposure { frame, percentile }: Exposure| -> Vec<BitFrame> {
         all_levels(frame, options.bits, options.shrink)
             .iter()
             .enumerate()
             .map(|(level, samples)| {
                 let frame = Frame::new(samples, frame.width >> level, frame.height >> level);
-                BitFrame::of(frame, options.percentile, options.tolerance)
+                BitFrame::of(frame, percentile, options.tolerance)
             })
             .collect()
     };
@@ -237,12 +249,13 @@ fn step_at(level: usize, reference: &[BitFrame], target: &[BitFrame]) -> Step {
 }
 
 /// A stack as a caller lends it: the frames' samples one after another, their
-/// sizes, and which of them is the reference.
+/// sizes, the percentile of each, and which of them is the reference.
 #[derive(Clone, Copy, Debug)]
 pub struct Stack<'a> {
     pub samples: &'a [u8],
     pub widths: &'a [usize],
     pub heights: &'a [usize],
+    pub percentiles: &'a [u8],
     pub reference: usize,
 }
 
@@ -251,11 +264,13 @@ impl<'a> Stack<'a> {
         self.widths.len()
     }
 
-    /// One frame of a stack that has passed its checks, so all have one size.
-    pub(crate) fn frame(&self, number: usize) -> Frame<'a> {
+    /// One frame of a stack that has passed its checks, so all have one size, with its
+    /// own percentile.
+    pub(crate) fn exposure(&self, number: usize) -> Exposure<'a> {
         let (width, height) = (self.widths[0], self.heights[0]);
         let area = width * height;
-        Frame::new(&self.samples[number * area..][..area], width, height)
+        let frame = Frame::new(&self.samples[number * area..][..area], width, height);
+        Exposure::new(frame, self.percentiles[number])
     }
 
     /// Each frame but the reference with its neighbour, in the order of the walk:
@@ -267,16 +282,17 @@ impl<'a> Stack<'a> {
     }
 
     /// The checks of a stack before scratch: 6, 2, 1, 3, 5, 4, 2. `room` is the
-    /// length of the shift list.
-    pub(crate) fn check(&self, percentile: u8, room: usize) -> Result<(), Refusal> {
+    /// length of the shift list. How many percentiles there are is no matter of 6.
+    pub(crate) fn check(&self, room: usize) -> Result<(), Refusal> {
         let count = self.count();
         refuse_if(
             count > MOST_FRAMES || self.heights.len() > MOST_FRAMES,
             TOO_MANY_FRAMES,
         )?;
-        refuse_if(count != self.heights.len(), WRONG_LENGTH)?;
+        refuse_if(self.heights.len() != count, WRONG_LENGTH)?;
+        refuse_if(self.percentiles.len() != count, WRONG_LENGTH)?;
         check_sides(&[self.widths, self.heights].concat())?;
-        check_percentile(percentile)?;
+        check_percentiles(self.percentiles)?;
         let chosen = [self.reference, count];
         refuse_with(self.reference >= count, NO_SUCH_REFERENCE, &chosen)?;
 
@@ -307,7 +323,7 @@ impl<'a> Stack<'a> {
     pub(crate) fn steps(&self, options: &Options) -> Vec<Shift> {
         let mut steps = vec![Shift::ZERO; self.count()];
         for (frame, neighbour) in self.walk() {
-            steps[frame] = step(self.frame(neighbour), self.frame(frame), options).shift;
+            steps[frame] = step(self.exposure(neighbour), self.exposure(frame), options).shift;
         }
         steps
     }
@@ -330,7 +346,7 @@ pub fn align_stack(
     room: usize,
     scratch: Scratch,
 ) -> Result<Vec<i32>, Refusal> {
-    stack.check(options.percentile, room)?;
+    stack.check(room)?;
     scratch.check(stack.scratch(options.bits))?;
     Ok(stack.shifts(&stack.steps(options)))
 }

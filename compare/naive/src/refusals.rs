@@ -52,6 +52,7 @@ pub(crate) fn check_sides(sides: &[usize]) -> Result<(), Refusal> {
     refuse_if(sides.iter().any(|&side| side > LONGEST_SIDE), SIDE_TOO_LONG)
 }
 
-pub(crate) fn check_percentile(percentile: u8) -> Result<(), Refusal> {
-    refuse_if(percentile > HIGHEST_PERCENTILE, NO_PERCENTILE)
+pub(crate) fn check_percentiles(percentiles: &[u8]) -> Result<(), Refusal> {
+    let is_over = |&percentile: &u8| percentile > HIGHEST_PERCENTILE;
+    refuse_if(percentiles.iter().any(is_over), NO_PERCENTILE)
 }

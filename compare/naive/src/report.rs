@@ -1,6 +1,6 @@
 //! The report: which other shifts would have done as well as a frame's step.
 
-use crate::align::{Options, Scratch, Stack};
+use crate::align::{Exposure, Options, Scratch, Stack};
 use crate::difference::counts;
 use crate::geometry::{Crop, Shift, common_crop};
 use crate::refusals::{
@@ -94,7 +94,7 @@ pub fn report(
     rivalry: &Rivalry,
     room: Room,
 ) -> Result<Report, Refusal> {
-    stack.check(options.percentile, room.shifts)?;
+    stack.check(room.shifts)?;
     refuse_if(room.verdicts != stack.count(), WRONG_LENGTH)?;
     refuse_if(rivalry.reach > FARTHEST_REACH, REACH_TOO_FAR)?;
     room.scratch.check(stack.scratch(options.bits))?;
@@ -134,7 +134,10 @@ fn survey(
     options: &Options,
     rivalry: &Rivalry,
 ) -> (u8, Vec<Record>) {
-    let cut = |number| BitFrame::of(stack.frame(number), options.percentile, options.tolerance);
+    let cut = |number| {
+        let Exposure { frame, percentile } = stack.exposure(number);
+        BitFrame::of(frame, percentile, options.tolerance)
+    };
     let (reference, target) = (cut(neighbour), cut(frame));
     let of_step = counts(&reference, &target, step);
     let most = of_step.disagreeing + u64::from(rivalry.margin);

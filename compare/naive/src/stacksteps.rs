@@ -6,6 +6,8 @@ use crate::report::{RECORD_BYTES, Report, Rivalry, Room, report};
 const SIDE: usize = 64;
 const MOST_FRAMES: usize = 8;
 pub const OPTIONS: Options = Options::USUAL;
+/// Of every frame.
+pub const PERCENTILE: u8 = 50;
 pub const RIVALRY: Rivalry = Rivalry {
     reach: 1,
     floor: 1,
@@ -27,6 +29,7 @@ pub fn text_at(input: &[u8], rivalry: &Rivalry) -> String {
         samples: input,
         widths: &vec![SIDE; count],
         heights: &vec![SIDE; count],
+        percentiles: &vec![PERCENTILE; count],
         reference: 0,
     };
     let room = Room {

@@ -2,13 +2,13 @@
 
 use crate::bitmap::{packed, words_needed};
 use crate::gray::{Frame, by_pixel};
-use crate::refusals::{Refusal, WRONG_LENGTH, check_percentile, check_sides, refuse_if};
+use crate::refusals::{Refusal, WRONG_LENGTH, check_percentiles, check_sides, refuse_if};
 
 /// The cut: 1, 2, 3.
 pub fn threshold(frame: Frame, percentile: u8) -> Result<u16, Refusal> {
     check_sides(&[frame.width, frame.height])?;
     refuse_if(!frame.is_whole(), WRONG_LENGTH)?;
-    check_percentile(percentile)?;
+    check_percentiles(&[percentile])?;
     Ok(cut(frame.samples, percentile))
 }
 
@@ -81,7 +81,7 @@ pub fn compute_bitmaps(
         !frame.is_whole() || room != [words_needed(width, height); 2],
         WRONG_LENGTH,
     )?;
-    check_percentile(percentile)?;
+    check_percentiles(&[percentile])?;
 
     let bits = BitFrame::of(frame, percentile, tolerance);
     Ok(Packed {

@@ -1,11 +1,11 @@
 //! The calibration cards A to J of the scope.
 
-use naive::align::{Options, Scratch, halved_samples, pyramid, shift};
+use naive::align::{Exposure, Options, Scratch, halved_samples, pyramid, shift};
 use naive::bitmap::{Bitmap, get};
 use naive::geometry::{Crop, Shift, common_crop, shifted};
 use naive::gray::{Frame, from_rgb};
 use naive::shrink::{Shrink, shrink2};
-use naive::stacksteps::OPTIONS;
+use naive::stacksteps::{OPTIONS, PERCENTILE};
 use naive::threshold::{Packed, compute_bitmaps, threshold};
 
 #[test]
@@ -39,7 +39,7 @@ fn d_cut_11_words_12_and_13() {
 }
 
 /// Levels are no call of their own: they show in the comparisons of a step (one a level
-/// on equal frames) and in the length of a pyramid.
+/// on equal frames that are cut alike) and in the length of a pyramid.
 #[test]
 fn e_levels() {
     for (side, bits, levels, samples) in [
@@ -51,7 +51,8 @@ fn e_levels() {
         let frame = Frame::new(&flat, side, side);
         let options = Options { bits, ..OPTIONS };
         let scratch = Scratch::of_step(side, side, bits);
-        let step = shift(frame, frame, &options, scratch).unwrap();
+        let exposure = Exposure::new(frame, PERCENTILE);
+        let step = shift(exposure, exposure, &options, scratch).unwrap();
         assert_eq!(step.comparisons, levels + 1);
         assert_eq!(halved_samples(side, side, bits), samples);
         assert_eq!(

@@ -1,16 +1,18 @@
 //! How many comparisons a step takes: at each level those up to and including the first
 //! candidate that disagrees in no pixel, or nine.
 
-use naive::align::{Options, Scratch, Step, shift};
+use naive::align::{Exposure, Options, Scratch, Step, shift};
 use naive::geometry::Shift;
 use naive::gray::Frame;
 use naive::shrink::Shrink;
-use naive::stacksteps::OPTIONS;
+use naive::stacksteps::{OPTIONS, PERCENTILE};
 
 type Size = (usize, usize);
 
+/// The step of two frames that are cut at one percentile.
 fn step(reference: &[u8], target: &[u8], (width, height): Size, options: Options) -> Step {
-    let [reference, target] = [reference, target].map(|samples| Frame::new(samples, width, height));
+    let exposure = |samples| Exposure::new(Frame::new(samples, width, height), PERCENTILE);
+    let [reference, target] = [reference, target].map(exposure);
     let scratch = Scratch::of_step(width, height, options.bits);
     shift(reference, target, &options, scratch).expect("a sound pair")
 }
@@ -35,7 +37,7 @@ const LEVELS: [(Size, u32, u64); 6] = [
 ];
 
 #[test]
-fn equal_frames_take_one_a_level() {
+fn equal_frames_cut_alike_take_one_a_level() {
     for ((width, height), bits, levels) in LEVELS {
         let frame = noise(1, width * height);
         for shrink in [Shrink::Average, Shrink::Subsample] {

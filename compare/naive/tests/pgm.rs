@@ -3,7 +3,7 @@
 use naive::Refusal;
 use naive::align::{Scratch, Stack, align_stack};
 use naive::pgm::{Laid, read, read_stack};
-use naive::stacksteps::OPTIONS;
+use naive::stacksteps::{OPTIONS, PERCENTILE};
 
 fn number(refusal: Refusal) -> u32 {
     assert_eq!(refusal.values, [] as [u64; 0]);
@@ -344,6 +344,7 @@ fn a_bracket_from_one_file() {
         samples: &laid.samples,
         widths: &laid.widths,
         heights: &laid.heights,
+        percentiles: &[PERCENTILE; 4],
         reference: 0,
     };
     let scratch = Scratch::of_step(32, 20, OPTIONS.bits);

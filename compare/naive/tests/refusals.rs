@@ -1,28 +1,27 @@
 //! Each refusal by its number, with the values it carries, and the order of checks.
 
+mod asked;
+
+use asked::{Asked, refused};
 use naive::Refusal;
 use naive::align::{
-    Options, Place, Scratch, Stack, align_stack, level, level_place, pyramid, scratch, shift,
+    Exposure, Place, Scratch, Step, level, level_place, pyramid, scratch, shift as step,
 };
 use naive::bitmap::{Bitmap, count_ones, get, row, row_place, set};
 use naive::difference::{Counts, Pair, disagreement};
 use naive::geometry::{Shift, common_crop, shifted};
 use naive::gray::{Frame, from_rgb};
-use naive::report::{Rivalry, Room, report};
 use naive::shrink::{Shrink, shrink2};
-use naive::stacksteps::OPTIONS;
+use naive::stacksteps::{OPTIONS, PERCENTILE};
 use naive::threshold::{compute_bitmaps, threshold};
 
 const OVER: usize = 8193;
-const WRONG_PERCENTILE: Options = Options {
-    percentile: 101,
-    ..OPTIONS
-};
+const NO_PERCENTILE: u8 = 101;
 
-fn refused<T: std::fmt::Debug>(answer: Result<T, Refusal>) -> u32 {
-    let refusal = answer.unwrap_err();
-    assert_eq!(refusal.values, [] as [u64; 0]);
-    refusal.number
+/// A step with both frames at the usual percentile.
+fn shift(reference: Frame, target: Frame, scratch: Scratch) -> Result<Step, Refusal> {
+    let [reference, target] = [reference, target].map(|frame| Exposure::new(frame, PERCENTILE));
+    step(reference, target, &OPTIONS, scratch)
 }
 
 fn pair(words: &[u64], width: usize, height: usize) -> Pair<'_> {
@@ -36,78 +35,6 @@ fn pair(words: &[u64], width: usize, height: usize) -> Pair<'_> {
 
 fn count(reference: Pair, target: Pair) -> Result<Counts, Refusal> {
     disagreement(reference, target, Shift::ZERO)
-}
-
-/// A stack of frames of these sizes, each frame as many samples as it needs.
-struct Asked {
-    samples: usize,
-    widths: Vec<usize>,
-    heights: Vec<usize>,
-    reference: usize,
-    options: Options,
-    reach: u32,
-    room: Room,
-}
-
-impl Asked {
-    /// A stack of 4 by 4 frames that is accepted with nothing to spare.
-    fn accepted(count: usize) -> Self {
-        Self {
-            samples: 16 * count,
-            widths: vec![4; count],
-            heights: vec![4; count],
-            reference: 0,
-            options: OPTIONS,
-            reach: 0,
-            room: Room {
-                shifts: 2 * count,
-                verdicts: count,
-                scratch: match count {
-                    1 => Scratch::NONE,
-                    _ => Scratch {
-                        bytes: 8,
-                        words: 16,
-                    },
-                },
-                records: 0,
-            },
-        }
-    }
-
-    /// The answer of stack and report, which must refuse alike or both accept.
-    fn answer(&self) -> Result<(), Refusal> {
-        let samples = vec![0; self.samples];
-        let room = self.room;
-        let stack = self.stack(&samples);
-        let plain = align_stack(stack, &self.options, room.shifts, room.scratch);
-        let full = self.report();
-        assert_eq!(plain.map(|_| ()), full);
-        full
-    }
-
-    fn stack<'a>(&'a self, samples: &'a [u8]) -> Stack<'a> {
-        Stack {
-            samples,
-            widths: &self.widths,
-            heights: &self.heights,
-            reference: self.reference,
-        }
-    }
-
-    /// The answer of the report alone. With a floor past the frame it needs no record.
-    fn report(&self) -> Result<(), Refusal> {
-        self.report_with_floor(17)
-    }
-
-    fn report_with_floor(&self, floor: u32) -> Result<(), Refusal> {
-        let samples = vec![0; self.samples];
-        let rivalry = Rivalry {
-            reach: self.reach,
-            floor,
-            margin: 0,
-        };
-        report(self.stack(&samples), &self.options, &rivalry, self.room).map(|_| ())
-    }
 }
 
 #[test]
@@ -141,7 +68,9 @@ fn refusal_1_side_too_long() {
         assert_eq!(refused(scratch(width, height, 6)), 1);
         let sound = Frame::new(&[], 0, 0);
         for (reference, target) in [(frame, sound), (sound, frame), (frame, frame)] {
-            let step = shift(reference, target, &WRONG_PERCENTILE, Scratch::NONE);
+            let [reference, target] =
+                [reference, target].map(|frame| Exposure::new(frame, NO_PERCENTILE));
+            let step = step(reference, target, &OPTIONS, Scratch::NONE);
             assert_eq!(refused(step), 1);
         }
         let (long, short) = (pair(&[], width, height), pair(&[1], 0, 0));
@@ -150,7 +79,7 @@ fn refusal_1_side_too_long() {
         }
         let mut stack = Asked::accepted(2);
         (stack.widths[1], stack.heights[1]) = (width, height);
-        stack.options = WRONG_PERCENTILE;
+        stack.percentiles[0] = NO_PERCENTILE;
         assert_eq!(refused(stack.answer()), 1);
     }
 }
@@ -175,10 +104,7 @@ fn refusal_2_wrong_length() {
     assert_eq!(refused(common_crop(&[1, 2, 3], 3, 2)), 2);
     assert_eq!(refused(pyramid(wrong, 6, Shrink::Average, 0)), 2);
     for (reference, target) in [(right, wrong), (wrong, right)] {
-        assert_eq!(
-            refused(shift(reference, target, &OPTIONS, Scratch::NONE)),
-            2
-        );
+        assert_eq!(refused(shift(reference, target, Scratch::NONE)), 2);
     }
     for wrong in 0..4 {
         let words: Vec<&[u64]> = (0..4)
@@ -209,23 +135,25 @@ fn refusal_2_wrong_length() {
 
 #[test]
 fn refusal_3_no_percentile() {
+    // Of steps and stacks `percentiles.rs` has more.
     let frame = Frame::new(&[1, 2], 2, 1);
     let other = Frame::new(&[1, 2], 1, 2);
-    for percentile in [101, 255] {
+    for percentile in [NO_PERCENTILE, 255] {
         assert_eq!(refused(threshold(frame, percentile)), 3);
         assert_eq!(refused(compute_bitmaps(frame, percentile, 4, [1, 1])), 3);
+        let [reference, target] = [frame, other].map(|frame| Exposure::new(frame, percentile));
+        let step = step(reference, target, &OPTIONS, Scratch::NONE);
+        assert_eq!(refused(step), 3);
+        let mut stack = Asked::accepted(2);
+        (stack.percentiles, stack.reference) = (vec![percentile; 2], 2);
+        assert_eq!(refused(stack.answer()), 3);
     }
-    let step = shift(frame, other, &WRONG_PERCENTILE, Scratch::NONE);
-    assert_eq!(refused(step), 3);
-    let mut stack = Asked::accepted(2);
-    (stack.options, stack.reference) = (WRONG_PERCENTILE, 2);
-    assert_eq!(refused(stack.answer()), 3);
 }
 
 #[test]
 fn refusal_4_sizes_differ() {
     let (wide, high) = (Frame::new(&[], 3, 2), Frame::new(&[], 2, 3));
-    let step = shift(wide, high, &OPTIONS, Scratch::NONE);
+    let step = shift(wide, high, Scratch::NONE);
     assert_eq!(step, Err(Refusal::new(4, &[3, 2, 2, 3])));
     let counted = count(pair(&[], 3, 2), pair(&[], 2, 3));
     assert_eq!(counted, Err(Refusal::new(4, &[3, 2, 2, 3])));
@@ -280,7 +208,7 @@ fn refusal_7_scratch_too_short() {
             words: 15,
         },
     ] {
-        assert_eq!(refused(shift(frame, frame, &OPTIONS, scratch)), 7);
+        assert_eq!(refused(shift(frame, frame, scratch)), 7);
         let mut stack = Asked::accepted(2);
         stack.room.scratch = scratch;
         assert_eq!(refused(stack.answer()), 7);
@@ -387,6 +315,6 @@ fn the_scratch_of_a_step_is_just_enough() {
     // Two levels of 32 by 2 and 16 by 1, twice; four bitmaps of two words a row.
     let need = scratch(65, 5, 6).unwrap();
     assert_eq!((need.bytes, need.words), (160, 40));
-    assert!(shift(frame, frame, &OPTIONS, need).is_ok());
+    assert!(shift(frame, frame, need).is_ok());
     assert_eq!(scratch(0, 8192, 6), Ok(Scratch::NONE));
 }

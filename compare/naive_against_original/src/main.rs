@@ -9,7 +9,7 @@ use std::process::ExitCode;
 
 use trials::{Call, Outcome, call};
 
-const CALLS: [Call; 21] = [
+const CALLS: [Call; 24] = [
     call("from_rgb", 2000, calls::from_rgb),
     call("shrink2", 3000, calls::shrink2),
     call("shifted", 4000, calls::shifted),
@@ -31,6 +31,9 @@ const CALLS: [Call; 21] = [
     call("report", 1200, stacks::report),
     call("stacksteps", 120, stacks::stacksteps),
     call("shift stops", stacks::STOPS, stacks::stops),
+    call("shift unequal", 1000, stacks::shift_unequal),
+    call("align_stack unequal", 600, stacks::align_stack_unequal),
+    call("report unequal", 600, stacks::report_unequal),
 ];
 
 fn main() -> ExitCode {

@@ -1,14 +1,15 @@
 //! The calls on pyramids, on two frames and on stacks.
 
-use naive::align::{self, Options, Scratch, halved_samples};
+use naive::align::{self, Exposure, Options, Scratch, halved_samples};
 use naive::geometry::Crop;
 use naive::gray::Frame;
 use naive::refusals::{RECORD_SPACE_TOO_SHORT, Refusal, SIZES_DIFFER};
 use naive::report::{RECORD_BYTES, Record, Report, Rivalry, Room};
-use naive::stacksteps::{self as program, OPTIONS, RIVALRY};
+use naive::stacksteps::{self as program, OPTIONS, PERCENTILE, RIVALRY};
 use trials::Outcome;
 use trials::frames::Frames;
-use trials::inputs::{Random, options, percentile_over, shrink, size};
+use trials::inputs::{Random, options, percentile_over, rivalry, shrink, size};
+use trials::unequal::{self, Asked, By};
 use trials::{matches, original, recount, scenes};
 
 use crate::calls::samples;
@@ -18,7 +19,7 @@ pub fn pyramid(random: &mut Random, _: usize) -> Outcome {
     let (width, height) = size(random, 130);
     let samples = samples(random, width, height);
     let frame = Frame::new(&samples, width, height);
-    let (bits, mode) = (options(random).bits, shrink(random));
+    let (bits, mode) = (options(random).0.bits, shrink(random));
     let scratch = halved_samples(width, height, bits) + random.below(3);
     let levels = original::pyramid(frame, bits, mode);
     same(
@@ -33,7 +34,7 @@ pub fn level(random: &mut Random, _: usize) -> Outcome {
     let (width, height) = size(random, 130);
     let samples = scenes::frame(random, width, height);
     let frame = Frame::new(&samples, width, height);
-    let (bits, mode) = (options(random).bits, shrink(random));
+    let (bits, mode) = (options(random).0.bits, shrink(random));
     let halved = recount::halved_levels(frame, bits, mode);
     let mut scratch = halved.concat();
     scratch.resize(scratch.len() + random.below(3), 99);
@@ -59,7 +60,7 @@ pub fn level(random: &mut Random, _: usize) -> Outcome {
 /// The original asks for none: what it would hold is counted.
 pub fn scratch(random: &mut Random, _: usize) -> Outcome {
     let (width, height) = size(random, 130);
-    let bits = options(random).bits;
+    let bits = options(random).0.bits;
     same(
         &format!("{width} by {height}, bits {bits}"),
         &align::scratch(width, height, bits),
@@ -70,10 +71,10 @@ pub fn scratch(random: &mut Random, _: usize) -> Outcome {
 pub fn shift(random: &mut Random, _: usize) -> Outcome {
     let (width, height) = size(random, 100);
     let mut frames = scenes::bracket(random, width, height, 2);
-    let mut options = options(random);
+    let (options, mut percentile) = options(random);
     let mut target_size = (width, height);
     match random.below(30) {
-        0 => options.percentile = percentile_over(random),
+        0 => percentile = percentile_over(random),
         1 => frames[0] = samples(random, width, height),
         2 => {
             target_size = size(random, 100);
@@ -83,25 +84,31 @@ pub fn shift(random: &mut Random, _: usize) -> Outcome {
     }
     let reference = Frame::new(&frames[0], width, height);
     let target = Frame::new(&frames[1], target_size.0, target_size.1);
-
-    step_agrees(reference, target, &options)
+    let exposures = [reference, target].map(|frame| Exposure::new(frame, percentile));
+    step_agrees(exposures, &options)
 }
 
-fn step_agrees(reference: Frame, target: Frame, options: &Options) -> Outcome {
-    let size = |frame: Frame| (frame.width, frame.height);
-    let input = format!("{:?} and {:?}, {options:?}", size(reference), size(target));
-    let scratch = Scratch::of_step(reference.width, reference.height, options.bits);
+/// With the original where both frames are cut at one percentile, and where the pair is sound
+/// with the count by level.
+fn step_agrees([reference, target]: [Exposure; 2], options: &Options) -> Outcome {
+    let percentiles = [reference.percentile, target.percentile];
+    let sizes = [reference.frame, target.frame].map(|frame| (frame.width, frame.height));
+    let input = format!("{sizes:?} at {percentiles:?}, {options:?}");
+    let scratch = Scratch::of_step(sizes[0].0, sizes[0].1, options.bits);
     let step = align::shift(reference, target, options, scratch);
-    same(
-        &input,
-        &step.clone().map(|step| step.shift),
-        &original::shift(reference, target, options),
-    )?;
-    let Ok(step) = step else {
-        return Ok(());
-    };
-    let comparisons = recount::comparisons(reference, target, options);
-    same(&input, &step.comparisons, &comparisons)
+    if original::has_one(&percentiles) {
+        let shift = step.clone().map(|step| step.shift);
+        same(&input, &shift, &original::shift(reference, target, options))?;
+    }
+    match step {
+        Ok(step) => same(&input, &step, &recount::step(reference, target, options)),
+        Err(_) => Ok(()),
+    }
+}
+
+pub fn shift_unequal(random: &mut Random, case: usize) -> Outcome {
+    let pair = unequal::pair_of(random, case, 100);
+    step_agrees(pair.exposures(), &pair.options)
 }
 
 /// At each of three levels every number of candidates tried.
@@ -109,20 +116,16 @@ pub const STOPS: usize = 9 * 3 * 40;
 
 pub fn stops(random: &mut Random, case: usize) -> Outcome {
     let pair = matches::trying(random, (case % 9) as u64 + 1, case / 9 % 3);
-    let [reference, target] = pair.frames();
-    step_agrees(reference, target, &pair.options)
-}
-
-fn bracket(random: &mut Random, size: (usize, usize), count: usize, reference: usize) -> Frames {
-    let frames = scenes::bracket(random, size.0, size.1, count);
-    Frames::of_one_size(frames, size, reference)
+    step_agrees(pair.exposures(), &pair.options)
 }
 
 pub fn align_stack(random: &mut Random, _: usize) -> Outcome {
     let (width, height) = size(random, 60);
     let count = random.below(7);
     let reference = random.below(count + 1);
-    let mut frames = bracket(random, (width, height), count, reference);
+    let bracket = scenes::bracket(random, width, height, count);
+    let (options, percentile) = options(random);
+    let mut frames = Frames::alike(bracket, (width, height), percentile, reference);
     if count > 0 && random.one_in(5) {
         frames.lose_rows_or_columns(random);
         let areas = frames.widths.iter().zip(&frames.heights);
@@ -130,7 +133,6 @@ pub fn align_stack(random: &mut Random, _: usize) -> Outcome {
             .samples
             .truncate(areas.map(|(width, height)| width * height).sum());
     }
-    let options = options(random);
 
     let input = format!("{frames}, {options:?}");
     let scratch = frames.scratch(options.bits);
@@ -156,6 +158,27 @@ pub fn align_stack(random: &mut Random, _: usize) -> Outcome {
         &input,
         &answer,
         &original::align_stack(frames.stack(), &options),
+    )?;
+    match answer {
+        Ok(shifts) => same(
+            &input,
+            &shifts,
+            &recount::align_stack(frames.stack(), &options),
+        ),
+        Err(_) => Ok(()),
+    }
+}
+
+pub fn align_stack_unequal(random: &mut Random, case: usize) -> Outcome {
+    let Asked {
+        frames, options, ..
+    } = unequal::stack_of(random, case, 60, By::Steps);
+    let scratch = frames.scratch(options.bits);
+    let room = 2 * frames.widths.len();
+    same(
+        &format!("{frames}, {options:?}"),
+        &align::align_stack(frames.stack(), &options, room, scratch),
+        &Ok(recount::align_stack(frames.stack(), &options)),
     )
 }
 
@@ -186,20 +209,26 @@ pub fn report(random: &mut Random, case: usize) -> Outcome {
         true => (6, 64),
         false => (30, random.pick(&[0, 1, 2, 2, 2, 3, 3])),
     };
-    let (width, height) = size(random, most_height);
+    let size = size(random, most_height);
     let count = 1 + random.below(4);
     let reference = random.below(count);
-    let frames = bracket(random, (width, height), count, reference);
-    let area = (width * height) as u32;
-    let rivalry = Rivalry {
-        reach,
-        floor: random.pick(&[0, 1, 1, area / 8, area / 4, area / 2, u32::MAX]),
-        margin: random.pick(&[0, 0, 1, 5, area / 8, u32::MAX]),
-    };
-    let options = options(random);
+    let bracket = scenes::bracket(random, size.0, size.1, count);
+    let rivalry = rivalry(random, reach, size);
+    let (options, percentile) = options(random);
+    let frames = Frames::alike(bracket, size, percentile, reference);
+    report_agrees(&frames, &options, &rivalry)
+}
 
+pub fn report_unequal(random: &mut Random, case: usize) -> Outcome {
+    let asked = unequal::stack_of(random, case, 30, By::Rivals);
+    report_agrees(&asked.frames, &asked.options, &asked.rivalry)
+}
+
+/// A sound stack's, with the original's shifts where all frames are cut at one percentile.
+fn report_agrees(frames: &Frames, options: &Options, rivalry: &Rivalry) -> Outcome {
+    let (count, stack) = (frames.widths.len(), frames.stack());
     let input = format!("{frames}, {options:?}, {rivalry:?}");
-    let expected = recount::report(frames.stack(), &options, &rivalry);
+    let expected = recount::report(stack, options, rivalry);
     let needed = expected.records.len();
     let asked = |records: usize| {
         let room = Room {
@@ -208,7 +237,7 @@ pub fn report(random: &mut Random, case: usize) -> Outcome {
             scratch: frames.scratch(options.bits),
             records,
         };
-        naive::report::report(frames.stack(), &options, &rivalry, room)
+        naive::report::report(stack, options, rivalry, room)
     };
 
     let read_back = asked(RECORD_BYTES * needed).map(|mut report| {
@@ -218,10 +247,15 @@ pub fn report(random: &mut Random, case: usize) -> Outcome {
         report
     });
     same(&input, &read_back, &Ok(expected.clone()))?;
+    if original::has_one(stack.percentiles) {
+        let shifts = read_back.map(|report| report.shifts);
+        same(&input, &shifts, &original::align_stack(stack, options))?;
+    }
     if needed > 0 {
         let short = Refusal::new(RECORD_SPACE_TOO_SHORT, &[needed]);
         same(&input, &asked(RECORD_BYTES * needed - 1), &Err(short))?;
     }
+    let (width, height) = (frames.widths[0], frames.heights[0]);
     let cover = recount::crop_is_what_all_cover(expected.crop, &expected.shifts, width, height);
     same(&input, &cover, &true)
 }
@@ -259,7 +293,8 @@ fn text_of(report: &Report) -> String {
 /// The program's text, and the one that it would have with a longer reach.
 pub fn stacksteps(random: &mut Random, case: usize) -> Outcome {
     let count = 1 + case % 8;
-    let frames = bracket(random, (64, 64), count, 0);
+    let bracket = scenes::bracket(random, 64, 64, count);
+    let frames = Frames::alike(bracket, (64, 64), PERCENTILE, 0);
     let expected = |rivalry: &Rivalry| text_of(&recount::report(frames.stack(), &OPTIONS, rivalry));
     let text = program::stacksteps(&frames.samples);
     same(&format!("{count} frames"), &text, &expected(&RIVALRY))?;

@@ -7,8 +7,8 @@
 //! the values of a refusal and, under 10, the needed scratch.
 //!
 //! What the calls take is named here, after the naive reading of the scope, so that
-//! a caller needs no other crate: frames, bitmaps and stacks, the lengths that they
-//! have, options, and the numbers of refusals and verdicts.
+//! a caller needs no other crate: frames, exposures, bitmaps and stacks, the lengths that
+//! they have, options, and the numbers of refusals and verdicts.
 //!
 //! The exported functions ask nothing of their caller but that each pointer is good
 //! for its length and that outputs overlap nothing, which references see to. So the
@@ -22,7 +22,7 @@ pub mod moves;
 pub mod report;
 pub mod search;
 
-pub use naive::align::{Options, Scratch, Stack, halved_samples};
+pub use naive::align::{Exposure, Options, Scratch, Stack, halved_samples};
 pub use naive::bitmap::{Bitmap, words_needed, words_per_row};
 pub use naive::difference::Pair;
 pub use naive::geometry::Shift;

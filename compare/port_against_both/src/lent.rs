@@ -4,6 +4,8 @@
 use std::fmt::{self, Debug, Display};
 use std::ops::Range;
 
+use naive::align::Stack;
+use trials::frames::Frames;
 use trials::inputs::Random;
 use trials::{Outcome, same};
 
@@ -150,6 +152,44 @@ impl<T: Element> Lent<T> {
         Err(format!(
             "{input}: the list {self} has changed at {changed:?}"
         ))
+    }
+}
+
+/// A stack with all its lists lent.
+pub struct LentStack {
+    samples: Lent<u8>,
+    widths: Lent<usize>,
+    heights: Lent<usize>,
+    percentiles: Lent<u8>,
+    reference: usize,
+}
+
+impl LentStack {
+    pub fn of(random: &mut Random, frames: &Frames) -> Self {
+        Self {
+            samples: Lent::holding(random, &frames.samples),
+            widths: Lent::holding(random, &frames.widths),
+            heights: Lent::holding(random, &frames.heights),
+            percentiles: Lent::holding(random, &frames.percentiles),
+            reference: frames.reference,
+        }
+    }
+
+    pub fn stack(&self) -> Stack<'_> {
+        Stack {
+            samples: self.samples.list(),
+            widths: self.widths.list(),
+            heights: self.heights.list(),
+            percentiles: self.percentiles.list(),
+            reference: self.reference,
+        }
+    }
+
+    pub fn are_kept(&self, input: &str) -> Outcome {
+        self.samples.is_kept(input)?;
+        self.widths.is_kept(input)?;
+        self.heights.is_kept(input)?;
+        self.percentiles.is_kept(input)
     }
 }
 

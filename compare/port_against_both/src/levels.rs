@@ -15,7 +15,7 @@ use crate::lent::Lent;
 pub fn pyramid(random: &mut Random, case: usize) -> Outcome {
     let claim = Claim::any(random, case, 60);
     let samples = claim.samples(random);
-    let (bits, mode) = (options(random).bits, shrink(random));
+    let (bits, mode) = (options(random).0.bits, shrink(random));
     let need = halved_samples(claim.made.0, claim.made.1, bits);
     let length = claim.scratch(random, need);
     let mut scratch = Lent::room(random, length);
@@ -41,7 +41,7 @@ pub fn pyramid(random: &mut Random, case: usize) -> Outcome {
 pub fn level(random: &mut Random, case: usize) -> Outcome {
     let claim = Claim::any(random, case, 60);
     let samples = claim.samples(random);
-    let (bits, mode) = (options(random).bits, shrink(random));
+    let (bits, mode) = (options(random).0.bits, shrink(random));
     let (width, height) = claim.made;
     let made = Frame::new(samples.list(), width, height);
     let halved = original::pyramid(made, bits, mode).unwrap_or_default();
@@ -87,7 +87,7 @@ pub fn level(random: &mut Random, case: usize) -> Outcome {
 pub fn scratch(random: &mut Random, case: usize) -> Outcome {
     let claim = Claim::any(random, case, 200);
     let Claim { width, height, .. } = claim;
-    let bits = options(random).bits;
+    let bits = options(random).0.bits;
     let [mut bytes, mut words] = [(); 2].map(|()| Lent::room(random, 1));
     let input = format!("{claim}, bits {bits}");
 

@@ -11,6 +11,7 @@ mod lent;
 mod levels;
 mod moves;
 mod parallel;
+mod percentiles;
 mod report;
 mod sealed;
 mod search;
@@ -24,7 +25,7 @@ use files::{headers, stacks, writes};
 use naive::Refusal;
 use trials::{Call, Outcome, call, same};
 
-const CALLS: [Call; 37] = [
+const CALLS: [Call; 42] = [
     call("from_rgb", 3000, frames::from_rgb),
     call("shrink2 average", 3000, frames::shrink2_average),
     call("shrink2 subsample", 3000, frames::shrink2_subsample),
@@ -66,6 +67,19 @@ const CALLS: [Call; 37] = [
     call("write_pgm lengths", 1000, writes::lengths),
     call("write_pgm again", 1600, writes::again),
     call("write_pgm pairs", writes::PAIRS, writes::pair),
+    call("shift unequal", 2000, search::shift_unequal),
+    call("align_stack unequal", 1200, search::align_stack_unequal),
+    call("report unequal", 1200, report::report_unequal),
+    call(
+        "percentile lists",
+        20 * percentiles::LENGTHS,
+        percentiles::lengths,
+    ),
+    call(
+        "percentile places",
+        2 * percentiles::PLACES,
+        percentiles::places,
+    ),
 ];
 
 fn main() -> ExitCode {
@@ -80,8 +94,8 @@ fn main() -> ExitCode {
 }
 
 /// Agreement of the port, by its status and what it has written, with the naive
-/// reading on every input and with the original where it has an answer. It is asked
-/// only about what is accepted.
+/// reading on every input and with the original where it has an answer, or its parts
+/// have. It is asked only about what is accepted.
 fn agreed<T: PartialEq + Debug>(
     input: &str,
     (status, written): (u32, T),

@@ -7,13 +7,13 @@ use port::files::read_stack;
 use port::{Frame, Options, Rivalry};
 use trials::Outcome;
 use trials::frames::Frames;
-use trials::inputs::Random;
+use trials::inputs::{ACROSS, Random};
 
 use crate::files::writes::{file_of_all, one_behind_another};
 use crate::whole::{Reported, reported};
 
 const SIDE: usize = 64;
-const FRAMES: usize = 3;
+const FRAMES: usize = ACROSS.len();
 const THREADS: u64 = 4;
 const TIMES: usize = 50;
 /// A file is written and read so often before it is reported, as either is short.
@@ -26,12 +26,15 @@ const RIVALRY: Rivalry = Rivalry {
     margin: 20,
 };
 
-/// Noise, which the seed gives, in a size that no other seed has.
+/// Noise, which the seed gives, in a size that no other seed has, each frame with a percentile
+/// of its own.
 fn noise(seed: u64) -> Frames {
     let (width, height) = (SIDE + seed as usize, SIDE - seed as usize);
     let mut random = Random::new(seed);
     let frames = (0..FRAMES).map(|_| random.bytes(width * height)).collect();
-    Frames::of_one_size(frames, (width, height), 1)
+    let mut frames = Frames::alike(frames, (width, height), 50, 1);
+    frames.percentiles = ACROSS.to_vec();
+    frames
 }
 
 fn lent(frames: &Frames) -> Vec<Frame<'_>> {

@@ -5,33 +5,48 @@ use naive::align::{Options, Scratch};
 use naive::geometry::Crop;
 use naive::refusals::{FARTHEST_REACH, MOST_FRAMES, RECORD_SPACE_TOO_SHORT};
 use naive::report::{self, RECORD_BYTES, Rivalry, Room};
-use trials::Outcome;
 use trials::frames::Frames;
-use trials::inputs::{Random, SIDES_OVER, options, percentile_over, size};
-use trials::{recount, scenes};
+use trials::inputs::{Random, SIDES_OVER, options, percentile_over, rivalry, size};
+use trials::unequal::{self, By};
+use trials::{Outcome, original, recount, same, scenes};
 
 use crate::agreed;
-use crate::lent::Lent;
+use crate::lent::{Lent, LentStack};
 use crate::search::{enough, lent, told, wrong};
 
 /// What a caller passes, the record space apart.
-struct Asked {
-    frames: Frames,
-    options: Options,
-    rivalry: Rivalry,
-    shifts: usize,
-    verdicts: usize,
-    scratch: Scratch,
+pub struct Asked {
+    pub frames: Frames,
+    pub options: Options,
+    pub rivalry: Rivalry,
+    pub shifts: usize,
+    pub verdicts: usize,
+    pub scratch: Scratch,
     /// What the stack needs while it is in order.
-    need: Scratch,
+    pub need: Scratch,
+}
+
+impl Asked {
+    pub fn new(random: &mut Random, frames: Frames, options: Options, rivalry: Rivalry) -> Self {
+        let (count, need) = (frames.widths.len(), frames.scratch(options.bits));
+        Self {
+            frames,
+            options,
+            rivalry,
+            shifts: 2 * count,
+            verdicts: count,
+            scratch: enough(random, need),
+            need,
+        }
+    }
 }
 
 /// A check made to fail.
-type Slip = fn(&mut Random, &mut Asked);
+pub type Slip = fn(&mut Random, &mut Asked);
 
 /// In the order of the checks. The last, a record space that is too short, comes with
 /// the space.
-const SLIPS: [Slip; 12] = [
+pub const SLIPS: [Slip; 13] = [
     // Over 16 frames in either list, or in both.
     |random, asked| {
         let (width, height) = size(random, 3);
@@ -39,6 +54,7 @@ const SLIPS: [Slip; 12] = [
         asked.frames.samples = vec![77; count * width * height];
         asked.frames.widths = vec![width; count];
         asked.frames.heights = vec![height; count];
+        asked.frames.percentiles.resize(count, 50);
         match random.below(3) {
             0 => asked.frames.widths.truncate(MOST_FRAMES),
             1 => asked.frames.heights.truncate(MOST_FRAMES),
@@ -50,10 +66,19 @@ const SLIPS: [Slip; 12] = [
         false => _ = asked.frames.heights.pop(),
     },
     |random, asked| {
+        let length = wrong(random, asked.frames.percentiles.len());
+        asked.frames.percentiles.resize(length, 50);
+    },
+    |random, asked| {
         let over = random.pick(&SIDES_OVER);
         *one_side(random, &mut asked.frames) = over;
     },
-    |random, asked| asked.options.percentile = percentile_over(random),
+    |random, asked| {
+        let place = random.below(asked.frames.widths.len());
+        if let Some(entry) = asked.frames.percentiles.get_mut(place) {
+            *entry = percentile_over(random);
+        }
+    },
     |random, asked| {
         let count = asked.frames.widths.len();
         asked.frames.reference = random.pick(&[count, count + 1, usize::MAX]);
@@ -78,6 +103,11 @@ const SLIPS: [Slip; 12] = [
     |_, asked| asked.scratch.words = asked.need.words.saturating_sub(1),
 ];
 
+/// Of the slips, the first after those of the lists' lengths, and the first after that of a
+/// percentile.
+pub const AFTER_LENGTHS: usize = 3;
+pub const AFTER_ENTRIES: usize = 5;
+
 /// Each check failing alone and with the next, in turn: the record space is the last.
 const ALONE: usize = SLIPS.len() + 1;
 const WITH_THE_NEXT: usize = ALONE + SLIPS.len();
@@ -94,7 +124,7 @@ fn one_side<'a>(random: &mut Random, frames: &'a mut Frames) -> &'a mut usize {
 }
 
 /// A stack in order, with a reach of 0 to 64; frames are small where the reach is far.
-fn in_order(random: &mut Random) -> Asked {
+pub fn in_order(random: &mut Random) -> Asked {
     let (most_height, reach) = match random.below(24) {
         0 => (6, FARTHEST_REACH),
         1 => (6, random.between(9, 63) as u32),
@@ -106,24 +136,12 @@ fn in_order(random: &mut Random) -> Asked {
         true => 15 + random.below(2),
         false => 1 + random.below(5),
     };
-    let frames = scenes::bracket(random, size.0, size.1, count);
-    let frames = Frames::of_one_size(frames, size, random.below(count));
-    let options = options(random);
-    let area = (size.0 * size.1) as u32;
-    let need = frames.scratch(options.bits);
-    Asked {
-        frames,
-        options,
-        rivalry: Rivalry {
-            reach,
-            floor: random.pick(&[0, 1, 1, area / 8, area / 4, area / 2, u32::MAX]),
-            margin: random.pick(&[0, 0, 1, 5, area / 8, u32::MAX]),
-        },
-        shifts: 2 * count,
-        verdicts: count,
-        scratch: enough(random, need),
-        need,
-    }
+    let bracket = scenes::bracket(random, size.0, size.1, count);
+    let reference = random.below(count);
+    let (options, percentile) = options(random);
+    let frames = Frames::alike(bracket, size, percentile, reference);
+    let rivalry = rivalry(random, reach, size);
+    Asked::new(random, frames, options, rivalry)
 }
 
 /// The length of a record space: exact, longer, or too short by one, by a record or
@@ -150,15 +168,27 @@ pub fn report(random: &mut Random, case: usize) -> Outcome {
     for slip in SLIPS.iter().take(slips.end).skip(slips.start) {
         slip(random, &mut asked);
     }
-    let samples = Lent::holding(random, &asked.frames.samples);
+    let short = slips.end > SLIPS.len() || slips.is_empty() && random.one_in(3);
+    report_agrees(random, &asked, short)
+}
+
+/// Each frame at a percentile of its own.
+pub fn report_unequal(random: &mut Random, case: usize) -> Outcome {
+    let found = unequal::stack_of(random, case, 30, By::Rivals);
+    let asked = Asked::new(random, found.frames, found.options, found.rivalry);
+    report_agrees(random, &asked, case % 8 == 6)
+}
+
+/// The report, with a record space that is too short or not.
+pub fn report_agrees(random: &mut Random, asked: &Asked, short: bool) -> Outcome {
     let Asked {
         frames,
         options,
         rivalry,
         ..
-    } = &asked;
-    let mut stack = frames.stack();
-    stack.samples = samples.list();
+    } = asked;
+    let lists = LentStack::of(random, frames);
+    let stack = lists.stack();
     let room = |records| Room {
         shifts: asked.shifts,
         verdicts: asked.verdicts,
@@ -167,7 +197,6 @@ pub fn report(random: &mut Random, case: usize) -> Outcome {
     };
     let endless = report::report(stack, options, rivalry, room(usize::MAX));
     let needed = endless.map_or(random.below(3), |report| report.records.len());
-    let short = slips.end > SLIPS.len() || slips.is_empty() && random.one_in(3);
     let space = space(random, needed, short);
 
     let mut shifts = Lent::room(random, asked.shifts);
@@ -197,7 +226,7 @@ pub fn report(random: &mut Random, case: usize) -> Outcome {
         values.array_mut(),
     );
     let naive = report::report(stack, options, rivalry, room(space));
-    samples.is_kept(&input)?;
+    lists.are_kept(&input)?;
     told(&values, &naive, &input)?;
     // Under 10 the records were counted, so that the scratch is used.
     let of_counting = match status {
@@ -231,6 +260,11 @@ pub fn report(random: &mut Random, case: usize) -> Outcome {
         let count = report.records.len();
         (report.shifts, report.verdicts, bytes, report.crop, count)
     };
+    if status == 0 && original::has_one(stack.percentiles) {
+        let original = original::align_stack(stack, options);
+        let shifts = Ok(written.0.clone());
+        same(&input, ("port", &shifts), ("original", &original))?;
+    }
     agreed(
         &input,
         (status, written),

@@ -11,7 +11,9 @@ use port::refusals::{
     SAMPLES_MISSING, SCRATCH_TOO_SHORT, SIDE_TOO_LONG, SIZES_DIFFER, TOO_MANY_FRAMES, WRONG_LENGTH,
 };
 use port::report::{Report, report};
-use port::{Bitmap, Frame, Options, Pair, RECORD_BYTES, Rivalry, Shift, Shrink, Stack, Values};
+use port::{
+    Bitmap, Exposure, Frame, Options, Pair, RECORD_BYTES, Rivalry, Shift, Shrink, Stack, Values,
+};
 use port::{counts, files, frames, levels, moves, search};
 use trials::Outcome;
 use trials::inputs::TOO_LONG;
@@ -59,6 +61,8 @@ impl Sealed {
 }
 
 const OPTIONS: Options = Options::USUAL;
+/// The second entry is no percentile.
+const OVER: [u8; 2] = [50, HIGHEST_PERCENTILE + 1];
 /// Seventeen rivals in a pair.
 const RIVALRY: Rivalry = Rivalry {
     reach: 2,
@@ -72,12 +76,14 @@ pub fn run() -> Outcome {
     let samples = [7; 32];
     let frame = Frame::new(&samples[..16], 4, 4);
     let small = Frame::new(&samples[..9], 3, 3);
-    let stack = |reference| Stack {
+    let stack_at = |percentiles: &'static [u8], reference| Stack {
         samples: &samples,
         widths: &[4; 2],
         heights: &[4; 2],
+        percentiles,
         reference,
     };
+    let stack = |reference| stack_at(&[50; 2], reference);
     let pair = |words, width| Pair {
         threshold: words,
         exclusion: words,
@@ -95,15 +101,24 @@ pub fn run() -> Outcome {
         count: sealed.one(),
     };
     let records = RIVALRY.most_rivals() * RECORD_BYTES;
-    let reported = |reference, written, scratch: (&mut [u8], &mut [u64]), values: &mut Values| {
-        report(
-            stack(reference),
+    let reported = |stack, written, scratch: (&mut [u8], &mut [u64]), values: &mut Values| {
+        report(stack, &OPTIONS, &RIVALRY, written, scratch, values)
+    };
+    let shifted = |target, percentile, bytes, values: &mut Values| {
+        let (reference, target) = (Exposure::new(frame, 50), Exposure::new(target, percentile));
+        let (step, count) = ((sealed.one(), sealed.one()), sealed.one());
+        search::shift(
+            reference,
+            target,
             &OPTIONS,
-            &RIVALRY,
-            written,
-            scratch,
+            scratch(bytes),
+            step,
+            count,
             values,
         )
+    };
+    let aligned = |stack, bytes, values: &mut Values| {
+        search::align_stack(stack, &OPTIONS, sealed.list(4), scratch(bytes), values)
     };
     let read = |file: &[u8]| files::read_pgm(file, 0, four());
     let read_stack = |file: &[u8], images, samples| {
@@ -116,7 +131,7 @@ pub fn run() -> Outcome {
 
     let write = |frame, room| files::write_pgm(frame, sealed.list(room), sealed.one());
 
-    let calls: [(&str, u32, &dyn Fn() -> u32); 41] = [
+    let calls: [(&str, u32, &dyn Fn() -> u32); 46] = [
         ("from_rgb", SIDE_TOO_LONG, &|| {
             frames::from_rgb(&[], TOO_LONG, 0, sealed.list(0))
         }),
@@ -173,46 +188,51 @@ pub fn run() -> Outcome {
         ("scratch", SIDE_TOO_LONG, &|| {
             levels::scratch(TOO_LONG, 1, 6, sealed.one(), sealed.one())
         }),
+        ("shift", NO_PERCENTILE, &|| {
+            shifted(frame, HIGHEST_PERCENTILE + 1, 8, sealed.values())
+        }),
         ("shift", SCRATCH_TOO_SHORT, &|| {
-            let (step, count) = ((sealed.one(), sealed.one()), sealed.one());
-            search::shift(
-                frame,
-                frame,
-                &OPTIONS,
-                scratch(7),
-                step,
-                count,
-                sealed.values(),
-            )
+            shifted(frame, 50, 7, sealed.values())
         }),
         ("shift", SIZES_DIFFER, &|| {
-            let (step, count) = ((sealed.one(), sealed.one()), sealed.one());
-            search::shift(frame, small, &OPTIONS, scratch(8), step, count, &mut [0; 5])
+            shifted(small, 50, 8, &mut [0; 5])
+        }),
+        ("align_stack", WRONG_LENGTH, &|| {
+            aligned(stack_at(&[50], 0), 8, sealed.values())
+        }),
+        ("align_stack", NO_PERCENTILE, &|| {
+            aligned(stack_at(&OVER, 0), 8, sealed.values())
         }),
         ("align_stack", SCRATCH_TOO_SHORT, &|| {
-            let shifts = sealed.list(4);
-            search::align_stack(stack(0), &OPTIONS, shifts, scratch(7), sealed.values())
+            aligned(stack(0), 7, sealed.values())
         }),
         ("align_stack", NO_SUCH_REFERENCE, &|| {
-            let shifts = sealed.list(4);
-            search::align_stack(stack(2), &OPTIONS, shifts, scratch(8), &mut [0; 5])
+            aligned(stack(2), 8, &mut [0; 5])
         }),
         ("report", WRONG_LENGTH, &|| {
-            reported(0, written(3, records), scratch(8), sealed.values())
+            let stack = stack_at(&[50; 3], 0);
+            reported(stack, written(4, records), scratch(8), sealed.values())
+        }),
+        ("report", NO_PERCENTILE, &|| {
+            let stack = stack_at(&OVER, 0);
+            reported(stack, written(4, records), scratch(8), sealed.values())
+        }),
+        ("report", WRONG_LENGTH, &|| {
+            reported(stack(0), written(3, records), scratch(8), sealed.values())
         }),
         ("report", SCRATCH_TOO_SHORT, &|| {
-            reported(0, written(4, records), scratch(7), sealed.values())
+            reported(stack(0), written(4, records), scratch(7), sealed.values())
         }),
         ("report", NO_SUCH_REFERENCE, &|| {
-            reported(2, written(4, records), scratch(8), &mut [0; 5])
+            reported(stack(2), written(4, records), scratch(8), &mut [0; 5])
         }),
         ("report", RECORD_SPACE_TOO_SHORT, &|| {
             let scratch = (&mut [0; 8][..], &mut [0; 16][..]);
-            reported(0, written(4, records - 1), scratch, &mut [0; 5])
+            reported(stack(0), written(4, records - 1), scratch, &mut [0; 5])
         }),
         ("report", RECORD_SPACE_TOO_SHORT, &|| {
             let scratch = (&mut [0; 8][..], &mut [0; 16][..]);
-            reported(0, written(4, 0), scratch, &mut [0; 5])
+            reported(stack(0), written(4, 0), scratch, &mut [0; 5])
         }),
         ("read_pgm", HEADER_MALFORMED, &|| read(b"P5 1 1 255")),
         ("read_pgm", SIDE_TOO_LONG, &|| read(b"P5 1 8193 255\n")),

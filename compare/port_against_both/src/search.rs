@@ -1,18 +1,18 @@
 //! The step of two frames and the stack.
 
 use naive::Refusal;
-use naive::align::{self, Options, Scratch, Step};
+use naive::align::{self, Exposure, Options, Scratch, Step};
 use naive::geometry::Shift;
 use naive::gray::Frame;
 use port::search as port;
-use trials::Outcome;
 use trials::frames::Frames;
 use trials::inputs::{Random, SIDES_OVER, TOO_LONG, options, percentile_over, size};
 use trials::matches::{self, Pair};
-use trials::{original, recount, scenes};
+use trials::unequal::{self, Asked, By};
+use trials::{Outcome, original, recount, same, scenes};
 
 use crate::agreed;
-use crate::lent::Lent;
+use crate::lent::{Lent, LentStack};
 
 /// One too many or too few.
 pub fn wrong(random: &mut Random, length: usize) -> usize {
@@ -47,12 +47,13 @@ pub fn told<T>(values: &Lent<usize>, naive: &Result<T, Refusal>, input: &str) ->
 pub fn shift(random: &mut Random, _: usize) -> Outcome {
     let (width, height) = size(random, 100);
     let mut frames = scenes::bracket(random, width, height, 2);
-    let mut options = options(random);
+    let (options, percentile) = options(random);
+    let mut percentiles = [percentile; 2];
     let mut sizes = [(width, height); 2];
     let need = Scratch::of_step(width, height, options.bits);
     let mut scratch = enough(random, need);
     match random.below(24) {
-        0 => options.percentile = percentile_over(random),
+        0 => percentiles[random.below(2)] = percentile_over(random),
         1 | 2 => {
             let frame = random.below(2);
             let length = wrong(random, frames[frame].len());
@@ -72,9 +73,17 @@ pub fn shift(random: &mut Random, _: usize) -> Outcome {
         random,
         [&frames[0], &frames[1]],
         sizes,
+        percentiles,
         &options,
         (scratch, need),
     )?;
+    Ok(())
+}
+
+/// Each frame at a percentile of its own.
+pub fn shift_unequal(random: &mut Random, case: usize) -> Outcome {
+    let pair = unequal::pair_of(random, case, 100);
+    step_of(random, &pair)?;
     Ok(())
 }
 
@@ -96,27 +105,36 @@ pub fn stops(random: &mut Random, case: usize) -> Outcome {
             (pair, Some(step))
         }
     };
-    let Pair {
-        samples,
-        size,
-        options,
-    } = &pair;
-    let need = Scratch::of_step(size.0, size.1, options.bits);
-    let scratch = enough(random, need);
-    let frames = samples.each_ref().map(|frame| &frame[..]);
-    let found = step(random, frames, [*size; 2], options, (scratch, need))?;
+    let found = step_of(random, &pair)?;
     let Some(meant) = meant else {
         return Ok(());
     };
+    let (size, options) = (pair.size, pair.options);
     let input = format!("{size:?}, candidate {at} of level {level}, {options:?}");
-    trials::same(&input, ("port", &found), ("meant", &meant))
+    same(&input, ("port", &found), ("meant", &meant))
+}
+
+/// The step of a sound pair.
+fn step_of(random: &mut Random, pair: &Pair) -> Result<Step, String> {
+    let need = Scratch::of_step(pair.size.0, pair.size.1, pair.options.bits);
+    let scratch = enough(random, need);
+    let frames = pair.samples.each_ref().map(|frame| &frame[..]);
+    step(
+        random,
+        frames,
+        [pair.size; 2],
+        pair.percentiles,
+        &pair.options,
+        (scratch, need),
+    )
 }
 
 /// The step of two frames of these sizes, in a scratch of which so much is needed.
-fn step(
+pub fn step(
     random: &mut Random,
     frames: [&[u8]; 2],
-    [(width, height), (target_width, target_height)]: [(usize, usize); 2],
+    sizes: [(usize, usize); 2],
+    percentiles: [u8; 2],
     options: &Options,
     (scratch, need): (Scratch, Scratch),
 ) -> Result<Step, String> {
@@ -125,12 +143,13 @@ fn step(
     let [mut x, mut y] = [(); 2].map(|()| Lent::room(random, 1));
     let mut comparisons = Lent::room(random, 1);
     let mut values = Lent::room(random, 5);
-    let input = format!(
-        "{width} by {height} and {target_width} by {target_height}, {options:?}, {scratch:?}"
-    );
+    let input = format!("{sizes:?} at {percentiles:?}, {options:?}, {scratch:?}");
 
-    let reference = Frame::new(frames[0].list(), width, height);
-    let target = Frame::new(frames[1].list(), target_width, target_height);
+    let [reference, target] = [0, 1].map(|number: usize| {
+        let (width, height) = sizes[number];
+        let frame = Frame::new(frames[number].list(), width, height);
+        Exposure::new(frame, percentiles[number])
+    });
     let status = port::shift(
         reference,
         target,
@@ -152,13 +171,13 @@ fn step(
         shift: Shift::new(x[0], y[0]),
         comparisons: comparisons.after(&input, status)?[0],
     };
-    let original = || {
-        Ok(Step {
-            shift: original::shift(reference, target, options)?,
-            comparisons: recount::comparisons(reference, target, options),
-        })
-    };
-    agreed(&input, (status, written), naive, Some(original))?;
+    let counted = || Ok(recount::step(reference, target, options));
+    agreed(&input, (status, written), naive, Some(counted))?;
+    if status == 0 && original::has_one(&percentiles) {
+        let original = original::shift(reference, target, options);
+        let shift = Ok(written.shift);
+        same(&input, ("port", &shift), ("original", &original))?;
+    }
     Ok(written)
 }
 
@@ -173,8 +192,8 @@ pub fn align_stack(random: &mut Random, _: usize) -> Outcome {
         false => random.below(count.max(1)),
     };
     let bracket = scenes::bracket(random, size.0, size.1, count);
-    let mut frames = Frames::of_one_size(bracket, size, reference);
-    let mut options = options(random);
+    let (options, percentile) = options(random);
+    let mut frames = Frames::alike(bracket, size, percentile, reference);
     let need = frames.scratch(options.bits);
     let mut scratch = enough(random, need);
     let mut room = 2 * count;
@@ -184,7 +203,7 @@ pub fn align_stack(random: &mut Random, _: usize) -> Outcome {
         }
         4 if count > 0 => _ = frames.heights.pop(),
         5 if count > 0 => frames.widths[random.below(count)] = random.pick(&[TOO_LONG, usize::MAX]),
-        6 => options.percentile = percentile_over(random),
+        6 if count > 0 => frames.percentiles[random.below(count)] = percentile_over(random),
         7 => {
             let length = wrong(random, frames.samples.len());
             frames.samples.resize(length, 77);
@@ -192,32 +211,58 @@ pub fn align_stack(random: &mut Random, _: usize) -> Outcome {
         8 => room = wrong(random, room),
         9 => scratch.bytes = need.bytes.saturating_sub(1),
         10 => scratch.words = need.words.saturating_sub(1),
+        11 => {
+            let length = wrong(random, frames.percentiles.len());
+            frames.percentiles.resize(length, percentile);
+        }
         _ => {}
     }
-    let samples = Lent::holding(random, &frames.samples);
+    stack_agrees(random, &frames, &options, room, (scratch, need))
+}
+
+/// Each frame at a percentile of its own.
+pub fn align_stack_unequal(random: &mut Random, case: usize) -> Outcome {
+    let Asked {
+        frames, options, ..
+    } = unequal::stack_of(random, case, 60, By::Steps);
+    let need = frames.scratch(options.bits);
+    let (room, scratch) = (2 * frames.widths.len(), enough(random, need));
+    stack_agrees(random, &frames, &options, room, (scratch, need))
+}
+
+/// The shifts of a stack in a list of this length and a scratch of which so much is needed.
+pub fn stack_agrees(
+    random: &mut Random,
+    frames: &Frames,
+    options: &Options,
+    room: usize,
+    (scratch, need): (Scratch, Scratch),
+) -> Outcome {
+    let lists = LentStack::of(random, frames);
     let mut shifts = Lent::room(random, room);
     let (mut bytes, mut words) = lent(random, scratch);
     let mut values = Lent::room(random, 5);
     let input = format!("{frames}, {options:?}, shifts {shifts}, {scratch:?}");
 
-    let mut stack = frames.stack();
-    stack.samples = samples.list();
+    let stack = lists.stack();
     let status = port::align_stack(
         stack,
-        &options,
+        options,
         shifts.list_mut(),
         (bytes.list_mut(), words.list_mut()),
         values.array_mut(),
     );
-    samples.is_kept(&input)?;
+    lists.are_kept(&input)?;
     bytes.used_up_to(need.bytes, &input, status)?;
     words.used_up_to(need.words, &input, status)?;
-    let naive = align::align_stack(stack, &options, room, scratch);
+    let naive = align::align_stack(stack, options, room, scratch);
     told(&values, &naive, &input)?;
-    agreed(
-        &input,
-        (status, shifts.after(&input, status)?),
-        naive,
-        Some(|| original::align_stack(stack, &options)),
-    )
+    let written = shifts.after(&input, status)?;
+    let counted = || Ok(recount::align_stack(stack, options));
+    agreed(&input, (status, written.clone()), naive, Some(counted))?;
+    if status == 0 && original::has_one(stack.percentiles) {
+        let original = original::align_stack(stack, options);
+        same(&input, ("port", &Ok(written)), ("original", &original))?;
+    }
+    Ok(())
 }

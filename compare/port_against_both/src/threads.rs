@@ -6,7 +6,8 @@ use std::thread;
 use port::refusals::LONGEST_SIDE;
 use port::report::{Report, report};
 use port::{
-    Bitmap, Frame, Options, Pair, RECORD_BYTES, Rivalry, Scratch, Shift, Stack, words_per_row,
+    Bitmap, Exposure, Frame, Options, Pair, RECORD_BYTES, Rivalry, Scratch, Shift, Stack,
+    words_per_row,
 };
 use port::{counts, files, frames, levels, moves, search};
 use trials::inputs::Random;
@@ -23,6 +24,8 @@ const OPTIONS: Options = Options {
     bits: 64,
     ..Options::USUAL
 };
+/// Of the first frame and of the second.
+const PERCENTILES: [u8; 2] = [83, 17];
 /// Every shift within reach is a rival, but for the eight around the step.
 const RIVALRY: Rivalry = Rivalry {
     reach: 2,
@@ -103,19 +106,21 @@ fn every_call(side: usize) -> Outcome {
 
     let mut cut = 0;
     on_thread("threshold", || {
-        frames::threshold(reference, OPTIONS.percentile, &mut cut)
+        frames::threshold(reference, PERCENTILES[0], &mut cut)
     })?;
     let need = Scratch::of_step(side, side, OPTIONS.bits);
     let (mut bytes, mut words) = (vec![0; need.bytes], vec![0; need.words]);
     let mut maps: Vec<&mut [u64]> = words.chunks_mut(need.words / 4).collect();
-    for (frame, maps) in [reference, target].into_iter().zip(maps.chunks_mut(2)) {
+    let exposures = [(reference, PERCENTILES[0]), (target, PERCENTILES[1])];
+    let exposures = exposures.map(|(frame, percentile)| Exposure::new(frame, percentile));
+    for (exposure, maps) in exposures.into_iter().zip(maps.chunks_mut(2)) {
         let [threshold, exclusion] = maps else {
             unreachable!("two bitmaps a frame")
         };
         on_thread("compute_bitmaps", || {
             frames::compute_bitmaps(
-                frame,
-                OPTIONS.percentile,
+                exposure.frame,
+                exposure.percentile,
                 OPTIONS.tolerance,
                 threshold,
                 exclusion,
@@ -166,12 +171,14 @@ fn every_call(side: usize) -> Outcome {
     on_thread("shift", || {
         let (scratch, slots) = ((&mut bytes[..], &mut words[..]), (&mut x, &mut y));
         let (slot, values) = (&mut comparisons, &mut values);
+        let [reference, target] = exposures;
         search::shift(reference, target, &OPTIONS, scratch, slots, slot, values)
     })?;
     let stack = Stack {
         samples: &rgb[..2 * area],
         widths: &[side; 2],
         heights: &[side; 2],
+        percentiles: &PERCENTILES,
         reference: 0,
     };
     let mut shifts = [0; 4];

@@ -75,6 +75,7 @@ pub fn report(input: &Input) -> Vec<Timed> {
                 samples: &samples,
                 widths: &[width; 2],
                 heights: &[height; 2],
+                percentiles: &[PERCENTILE; 2],
                 reference: 0,
             };
             let rivalry = Rivalry {

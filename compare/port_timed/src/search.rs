@@ -1,12 +1,13 @@
-//! The step of two frames and the stack, with the original's usual options. Every
-//! frame is the one before it, moved; steps are also timed on a frame and itself.
+//! The step of two frames and the stack, with the original's usual options and one
+//! percentile for all frames. Every frame is the one before it, moved; steps are also
+//! timed on a frame and itself.
 
 use std::hint::black_box;
 
-use ::port::{Frame, Options, Scratch, Shrink, Stack, search as port};
+use ::port::{Exposure, Frame, Options, Scratch, Shrink, Stack, search as port};
 use mtb_align::{Gray, Shift};
 
-use crate::frames::{accepted, gray};
+use crate::frames::{PERCENTILE, accepted, gray};
 use crate::inputs::Input;
 use crate::race::race_beside;
 use crate::{Timed, opencv, original, timed};
@@ -57,8 +58,10 @@ pub fn shift(input: &Input) -> Vec<Timed> {
 
 fn step(call: &'static str, input: &Input, frames: &[Gray]) -> Timed {
     let (width, height) = input.size;
-    let [reference, target] =
-        [0, 1].map(|frame: usize| Frame::new(frames[frame].as_slice(), width, height));
+    let [reference, target] = [0, 1].map(|frame: usize| {
+        let frame = Frame::new(frames[frame].as_slice(), width, height);
+        Exposure::new(frame, PERCENTILE)
+    });
     let (mut bytes, mut words) = scratch(input.size);
     let (mut x, mut y, mut comparisons) = (0, 0, 0);
     let mut values = [0; 5];
@@ -71,7 +74,7 @@ fn step(call: &'static str, input: &Input, frames: &[Gray]) -> Timed {
                 &frames[1],
                 OPTIONS.bits,
                 OPTIONS.tolerance,
-                OPTIONS.percentile,
+                PERCENTILE,
                 OPTIONS.shrink == Shrink::Subsample,
                 &mut x_there,
                 &mut y_there,
@@ -104,6 +107,7 @@ pub fn align_stack(input: &Input) -> Vec<Timed> {
                 samples: &samples,
                 widths: &vec![width; count],
                 heights: &vec![height; count],
+                percentiles: &vec![PERCENTILE; count],
                 reference: count / 2,
             };
             let mut shifts = vec![0; 2 * count];
@@ -118,7 +122,7 @@ pub fn align_stack(input: &Input) -> Vec<Timed> {
                         count / 2,
                         OPTIONS.bits,
                         OPTIONS.tolerance,
-                        OPTIONS.percentile,
+                        PERCENTILE,
                         OPTIONS.shrink == Shrink::Subsample,
                     ));
                 },

@@ -13,7 +13,8 @@ use crate::scene::FINE;
 pub struct Terms {
     pub bits: u32,
     pub tolerance: u8,
-    pub percentile: u8,
+    /// Of the first frame, and of every other.
+    pub percentiles: [u8; 2],
     pub reach: u32,
     pub floor: u32,
     pub margin: u32,
@@ -46,7 +47,6 @@ pub fn ask(bracket: &Bracket, terms: &Terms) -> Vec<Answer> {
     let options = Options {
         bits: terms.bits,
         tolerance: terms.tolerance,
-        percentile: terms.percentile,
         shrink: Shrink::Average,
     };
     let rivalry = Rivalry {
@@ -54,10 +54,14 @@ pub fn ask(bracket: &Bracket, terms: &Terms) -> Vec<Answer> {
         floor: terms.floor,
         margin: terms.margin,
     };
+    let [first, others] = terms.percentiles;
+    let mut percentiles = vec![others; count];
+    percentiles[0] = first;
     let stack = Stack {
         samples: &bracket.frames,
         widths: &vec![side; count],
         heights: &vec![side; count],
+        percentiles: &percentiles,
         reference: 0,
     };
     let (mut shifts, mut verdicts) = (vec![0; 2 * count], vec![0; count]);

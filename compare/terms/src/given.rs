@@ -39,7 +39,7 @@ pub const LIGHTS: [(&str, Shot, u8); 3] = [
 pub const PROGRAM: Terms = Terms {
     bits: 6,
     tolerance: 4,
-    percentile: 50,
+    percentiles: [50; 2],
     reach: 1,
     floor: 1,
     margin: 0,

@@ -10,7 +10,7 @@ use crate::table::{brackets, markdown_head, markdown_row, of_verdicts};
 pub fn floor(seed: u64) -> String {
     let floors = |percentile| -> Vec<Terms> {
         let of_floor = |floor| Terms {
-            percentile,
+            percentiles: [percentile; 2],
             floor,
             ..ADVISED
         };
@@ -33,16 +33,42 @@ pub fn floor(seed: u64) -> String {
 const HEAD: [&str; 4] = ["frames", "percentile 17", "50", "83"];
 
 fn over_percentile() -> Vec<Terms> {
-    let of_percentile = |percentile| Terms {
-        percentile,
+    [17, 50, 83]
+        .map(|percentile| cut_at([percentile; 2]))
+        .into()
+}
+
+/// The first frame at one percentile, the second at another.
+fn cut_at(percentiles: [u8; 2]) -> Terms {
+    Terms {
+        percentiles,
         ..ADVISED
-    };
-    [17, 50, 83].map(of_percentile).into()
+    }
 }
 
 pub fn percentile(seed: u64) -> String {
     let rows = by_light(|_| over_percentile());
     of_verdicts(&HEAD, rows, COUNT, seed)
+}
+
+/// The first frame at its light's own percentile and the second at that or a little less, and
+/// both at percentiles far apart.
+pub fn percentiles_apart(seed: u64) -> String {
+    let head = [
+        "frames",
+        "the same",
+        "5 less",
+        "10 less",
+        "83 and 50",
+        "50 and 17",
+        "83 and 17",
+    ];
+    let pairs = |own: u8| -> Vec<Terms> {
+        let near = [0, 5, 10].map(|less| [own, own - less]);
+        let far = [[83, 50], [50, 17], [83, 17]];
+        near.into_iter().chain(far).map(cut_at).collect()
+    };
+    of_verdicts(&head, by_light(pairs), COUNT, seed)
 }
 
 /// Textured parts from far too dim to far too bright, two neighbours of a bracket each.

@@ -29,7 +29,7 @@ const SEED: u64 = 20_030_602;
 /// A table's name, and the table that a seed gives.
 type Table = (&'static str, fn(u64) -> String);
 
-const TABLES: [Table; 15] = [
+const TABLES: [Table; 16] = [
     ("reach-of-program", reaches::reach_of_program),
     ("reach", reaches::reach),
     ("reach-and-tremble", reaches::reach_and_tremble),
@@ -39,6 +39,7 @@ const TABLES: [Table; 15] = [
     ("margin", searches::margin),
     ("tolerance", searches::tolerance),
     ("percentile", lights::percentile),
+    ("percentiles-apart", lights::percentiles_apart),
     ("exposure", lights::exposure),
     ("clipped", lights::clipped),
     ("large-frames", reaches::large_frames),
@@ -105,7 +106,7 @@ fn print_own(numbers: &[&str]) -> Result<(), String> {
     let terms = Terms {
         bits: read[0],
         tolerance: read[1] as u8,
-        percentile: read[2] as u8,
+        percentiles: [read[2] as u8; 2],
         reach: read[3],
         floor: read[4],
         margin: read[5],

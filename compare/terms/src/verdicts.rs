@@ -39,7 +39,7 @@ pub fn verdicts(seed: u64) -> String {
     let mut all = Vec::new();
     let mut add = |name: &str, scenes: &[Scene], taken, percentile| {
         let terms = Terms {
-            percentile,
+            percentiles: [percentile; 2],
             ..ADVISED
         };
         let brackets = brackets(&shots(scenes, taken), COUNT, seed);

@@ -11,19 +11,23 @@ pub struct Frames {
     pub samples: Vec<u8>,
     pub widths: Vec<usize>,
     pub heights: Vec<usize>,
+    pub percentiles: Vec<u8>,
     pub reference: usize,
 }
 
 impl Frames {
-    pub fn of_one_size(
+    /// Frames of one size that are all cut at one percentile.
+    pub fn alike(
         frames: Vec<Vec<u8>>,
         (width, height): (usize, usize),
+        percentile: u8,
         reference: usize,
     ) -> Self {
         Self {
             samples: frames.concat(),
             widths: vec![width; frames.len()],
             heights: vec![height; frames.len()],
+            percentiles: vec![percentile; frames.len()],
             reference,
         }
     }
@@ -33,6 +37,7 @@ impl Frames {
             samples: &self.samples,
             widths: &self.widths,
             heights: &self.heights,
+            percentiles: &self.percentiles,
             reference: self.reference,
         }
     }
@@ -63,6 +68,7 @@ impl fmt::Display for Frames {
     fn fmt(&self, f: &mut fmt::Formatter) -> fmt::Result {
         let (widths, heights) = (&self.widths, &self.heights);
         write!(f, "widths {widths:?}, heights {heights:?}, ")?;
+        write!(f, "percentiles {:?}, ", self.percentiles)?;
         write!(f, "reference {}", self.reference)
     }
 }

@@ -1,9 +1,10 @@
-//! Seeded pseudo-random sizes, lengths, shifts, bitmaps and options.
+//! Seeded pseudo-random sizes, lengths, shifts, bitmaps, options and percentiles.
 
 use naive::align::Options;
 use naive::bitmap::packed;
 use naive::geometry::Shift;
 use naive::refusals::{HIGHEST_PERCENTILE, LONGEST_SIDE};
+use naive::report::Rivalry;
 use naive::shrink::Shrink;
 
 /// SplitMix64: small, and the same on every machine.
@@ -198,21 +199,64 @@ pub fn tolerance(random: &mut Random) -> u8 {
     }
 }
 
-/// Mostly what a machine would be set to, now and then anything.
-pub fn options(random: &mut Random) -> Options {
-    Options {
-        bits: match random.one_in(4) {
-            true => random.pick(&[0, 1, 2, 31, 32, 64, u32::MAX]),
-            false => random.between(3, 8) as u32,
-        },
-        tolerance: match random.one_in(4) {
-            true => random.byte(),
-            false => random.pick(&[0, 2, 4, 8]),
-        },
-        percentile: match random.one_in(3) {
-            true => random.below(usize::from(HIGHEST_PERCENTILE) + 1) as u8,
-            false => random.pick(&[17, 50, 50, 83]),
-        },
+/// Mostly what a machine would be set to, now and then anything: options, and a percentile
+/// for all frames, as the original has one.
+pub fn options(random: &mut Random) -> (Options, u8) {
+    let bits = match random.one_in(4) {
+        true => random.pick(&[0, 1, 2, 31, 32, 64, u32::MAX]),
+        false => random.between(3, 8) as u32,
+    };
+    let tolerance = match random.one_in(4) {
+        true => random.byte(),
+        false => random.pick(&[0, 2, 4, 8]),
+    };
+    let percentile = match random.one_in(3) {
+        true => any_percentile(random),
+        false => random.pick(&[17, 50, 50, 83]),
+    };
+    let options = Options {
+        bits,
+        tolerance,
         shrink: shrink(random),
+    };
+    (options, percentile)
+}
+
+fn any_percentile(random: &mut Random) -> u8 {
+    random.below(usize::from(HIGHEST_PERCENTILE) + 1) as u8
+}
+
+/// Terms of a report on frames of this size: few rivals, all, or none.
+pub fn rivalry(random: &mut Random, reach: u32, (width, height): (usize, usize)) -> Rivalry {
+    let area = (width * height) as u32;
+    Rivalry {
+        reach,
+        floor: random.pick(&[0, 1, 1, area / 8, area / 4, area / 2, u32::MAX]),
+        margin: random.pick(&[0, 0, 1, 5, area / 8, u32::MAX]),
+    }
+}
+
+/// From the dark end of a bracket to its bright one.
+pub const ACROSS: [u8; 3] = [83, 50, 17];
+
+/// A percentile for each of two frames or more, not all of them the same: across the bracket
+/// or back, both ends of the range, or any.
+pub fn unequal_percentiles(random: &mut Random, count: usize) -> Vec<u8> {
+    assert!(count > 1, "one percentile is like itself");
+    loop {
+        let (kind, back) = (random.below(3), random.one_in(2));
+        let mut percentiles: Vec<u8> = (0..count)
+            .map(|frame| match kind {
+                0 => ACROSS[2 * frame / (count - 1)],
+                1 => random.pick(&[0, HIGHEST_PERCENTILE]),
+                _ => any_percentile(random),
+            })
+            .collect();
+        if back {
+            percentiles.reverse();
+        }
+        if percentiles.iter().any(|&other| other != percentiles[0]) {
+            return percentiles;
+        }
     }
 }

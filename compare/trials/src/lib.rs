@@ -11,5 +11,6 @@ pub mod pgm;
 pub mod recount;
 mod run;
 pub mod scenes;
+pub mod unequal;
 
 pub use run::{Call, Outcome, call, run, same};

@@ -1,7 +1,7 @@
 //! Pairs of frames by how many of the nine candidates their step tries at a level: those up to
 //! and including the first clean match, which disagrees in no pixel.
 
-use naive::align::Options;
+use naive::align::{Exposure, Options};
 use naive::gray::Frame;
 
 use crate::inputs::{Random, options};
@@ -24,14 +24,17 @@ pub const NINE: [(i32, i32); 9] = [
 pub struct Pair {
     pub samples: [Vec<u8>; 2],
     pub size: (usize, usize),
+    pub percentiles: [u8; 2],
     pub options: Options,
 }
 
 impl Pair {
-    pub fn frames(&self) -> [Frame<'_>; 2] {
+    pub fn exposures(&self) -> [Exposure<'_>; 2] {
         let (width, height) = self.size;
-        let frame = |samples| Frame::new(samples, width, height);
-        self.samples.each_ref().map(|samples| frame(samples))
+        [0, 1].map(|number: usize| {
+            let frame = Frame::new(&self.samples[number], width, height);
+            Exposure::new(frame, self.percentiles[number])
+        })
     }
 }
 
@@ -50,12 +53,12 @@ pub fn moved(
     let pair = Pair {
         samples: scenes::noise_moved(random, size, step),
         size,
+        percentiles: [50; 2],
         options: Options {
             bits: coarsest as u32 + 1,
             // The edges and so the cuts differ: no sample between the cuts is compared.
             tolerance: 20,
-            percentile: 50,
-            ..options(random)
+            ..options(random).0
         },
     };
     (pair, step)
@@ -64,21 +67,20 @@ pub fn moved(
 /// How many pairs are looked at for one of a kind.
 const LOOKED_AT: usize = 100_000;
 
-/// Two small frames of a scene, searched at three levels, whose step tries so many candidates
-/// at one of them.
+/// Two small frames of a scene, cut at one percentile and searched at three levels, whose step
+/// tries so many candidates at one of them.
 pub fn trying(random: &mut Random, tried: u64, level: usize) -> Pair {
     for _ in 0..LOOKED_AT {
         let [width, height] = [(); 2].map(|()| 8 + random.below(24));
         let frames = scenes::bracket(random, width, height, 2);
+        let (options, percentile) = options(random);
         let pair = Pair {
             samples: frames.try_into().expect("two frames"),
             size: (width, height),
-            options: Options {
-                bits: 3,
-                ..options(random)
-            },
+            percentiles: [percentile; 2],
+            options: Options { bits: 3, ..options },
         };
-        let [reference, target] = pair.frames();
+        let [reference, target] = pair.exposures();
         if recount::tried(reference, target, &pair.options)[level] == tried {
             return pair;
         }

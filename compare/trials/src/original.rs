@@ -8,7 +8,7 @@ use std::sync::Once;
 
 use mtb_align as original;
 use naive::Refusal;
-use naive::align::{Options, Stack};
+use naive::align::{Exposure, Options, Stack};
 use naive::bitmap::{Bitmap, get as bit};
 use naive::difference::Pair;
 use naive::geometry::{Crop, Shift};
@@ -105,11 +105,19 @@ pub(crate) fn shrink_of(shrink: Shrink) -> original::Shrink {
     }
 }
 
-fn options_of(options: &Options) -> original::Options {
+/// Whether the original can be asked: it has one percentile for all frames.
+pub fn has_one(percentiles: &[u8]) -> bool {
+    percentiles.windows(2).all(|two| two[0] == two[1])
+}
+
+/// With the one percentile of these; of no frames it is no matter which.
+fn options_of(options: &Options, percentiles: &[u8]) -> original::Options {
+    assert!(has_one(percentiles), "the original has one percentile");
+    let percentile = percentiles.first().copied().unwrap_or_default();
     original::Options {
         bits: options.bits,
         tolerance: options.tolerance,
-        percentile: original::Percentile::new(options.percentile),
+        percentile: original::Percentile::new(percentile),
         shrink: shrink_of(options.shrink),
     }
 }
@@ -263,11 +271,16 @@ pub fn disagreement(reference: Pair, target: Pair, shift: Shift) -> Result<u64, 
     })
 }
 
-pub fn shift(reference: Frame, target: Frame, options: &Options) -> Result<Shift, Refusal> {
-    ask(|| original::shift(&gray(reference), &gray(target), &options_of(options)).map(plain))
+/// The step of two frames that are cut at one percentile.
+pub fn shift(reference: Exposure, target: Exposure, options: &Options) -> Result<Shift, Refusal> {
+    ask(|| {
+        let options = options_of(options, &[reference.percentile, target.percentile]);
+        original::shift(&gray(reference.frame), &gray(target.frame), &options).map(plain)
+    })
 }
 
-/// The shift list of a stack whose samples are as many as its sizes ask for.
+/// The shift list of a stack whose samples are as many as its sizes ask for, and whose frames
+/// are all cut at one percentile.
 pub fn align_stack(stack: Stack, options: &Options) -> Result<Vec<i32>, Refusal> {
     ask(|| {
         let mut rest = stack.samples;
@@ -277,7 +290,8 @@ pub fn align_stack(stack: Stack, options: &Options) -> Result<Vec<i32>, Refusal>
             frames.push(gray(Frame::new(samples, width, height)));
             rest = others;
         }
-        let shifts = original::align_stack(&frames, stack.reference, &options_of(options))?;
+        let options = options_of(options, stack.percentiles);
+        let shifts = original::align_stack(&frames, stack.reference, &options)?;
         Ok(shifts.iter().flat_map(|shift| [shift.x, shift.y]).collect())
     })
 }

@@ -2,7 +2,7 @@
 //! serve, by brute force where they do not.
 
 use mtb_align::{Bitmap, Bitmaps, Gray, Percentile, Shift, compute_bitmaps, disagreement, shrink2};
-use naive::align::{Options, Scratch, Stack};
+use naive::align::{Exposure, Options, Scratch, Stack, Step};
 use naive::geometry::Crop;
 use naive::gray::Frame;
 use naive::report::{Record, Report, Rivalry};
@@ -35,23 +35,26 @@ pub fn levels(width: usize, height: usize, bits: u32) -> usize {
         .count()
 }
 
-fn packed(samples: Vec<u8>, (width, height): (usize, usize), options: &Options) -> Bitmaps {
-    let gray = Gray::from_vec(samples, width, height);
-    let percentile = Percentile::new(options.percentile);
-    compute_bitmaps(&gray, percentile, options.tolerance)
+fn packed(samples: &[u8], size: (usize, usize), percentile: u8, tolerance: u8) -> Bitmaps {
+    let gray = Gray::from_vec(samples.to_vec(), size.0, size.1);
+    compute_bitmaps(&gray, Percentile::new(percentile), tolerance)
 }
 
-/// How many shifts the step of a sound pair tries at each level, full size first: up to and
-/// including the first that disagrees in no pixel, or nine. The original halves, packs and
-/// counts.
-pub fn tried(reference: Frame, target: Frame, options: &Options) -> Vec<u64> {
-    let bitmaps = |frame: Frame| -> Vec<Bitmaps> {
+/// The shift of a sound pair's step, and how many shifts it tries at each level, full size
+/// first: up to and including the first that disagrees in no pixel, or nine. The original
+/// halves, packs and counts, each frame at its own percentile.
+fn by_level(
+    reference: Exposure,
+    target: Exposure,
+    options: &Options,
+) -> (naive::geometry::Shift, Vec<u64>) {
+    let bitmaps = |Exposure { frame, percentile }: Exposure| -> Vec<Bitmaps> {
         let mut levels = vec![frame.samples.to_vec()];
         levels.extend(halved_levels(frame, options.bits, options.shrink));
         let size = |level| (frame.width >> level, frame.height >> level);
-        let levels = levels.into_iter().enumerate();
+        let levels = levels.iter().enumerate();
         levels
-            .map(|(level, samples)| packed(samples, size(level), options))
+            .map(|(level, samples)| packed(samples, size(level), percentile, options.tolerance))
             .collect()
     };
     let (reference, target) = (bitmaps(reference), bitmaps(target));
@@ -72,12 +75,21 @@ pub fn tried(reference: Frame, target: Frame, options: &Options) -> Vec<u64> {
         (x, y) = best;
         tried.insert(0, made);
     }
-    tried
+    (naive::geometry::Shift::new(x, y), tried)
 }
 
-/// At all levels together.
-pub fn comparisons(reference: Frame, target: Frame, options: &Options) -> u64 {
-    tried(reference, target, options).iter().sum()
+/// How many shifts the step of a sound pair tries at each level.
+pub fn tried(reference: Exposure, target: Exposure, options: &Options) -> Vec<u64> {
+    by_level(reference, target, options).1
+}
+
+/// The step of a sound pair, with the comparisons of all levels.
+pub fn step(reference: Exposure, target: Exposure, options: &Options) -> Step {
+    let (shift, tried) = by_level(reference, target, options);
+    Step {
+        shift,
+        comparisons: tried.iter().sum(),
+    }
 }
 
 /// The halved levels of a frame, one halving after another.
@@ -135,70 +147,124 @@ const TO_NEIGHBOURS: [(i32, i32); 8] = [
     (1, 1),
 ];
 
-/// The report of a sound stack. Each place of a window but those next to the step is
-/// counted by the original, and the verdict is told from the records.
-pub fn report(stack: Stack, options: &Options, rivalry: &Rivalry) -> Report {
-    let (width, height) = (stack.widths[0], stack.heights[0]);
-    let shifts = original::align_stack(stack, options).expect("a sound stack");
-    let at = |frame: usize| (shifts[2 * frame], shifts[2 * frame + 1]);
-    let bitmaps: Vec<Bitmaps> = (0..stack.widths.len())
-        .map(|frame| {
-            let samples = &stack.samples[frame * width * height..][..width * height];
-            packed(samples.to_vec(), (width, height), options)
-        })
-        .collect();
+/// What a frame's neighbour and the frame are cut at, by the percentiles of a stack and the
+/// numbers of the two.
+pub type Cuts = fn(&[u8], [usize; 2]) -> [u8; 2];
 
+/// Each at its own.
+pub const OWN: Cuts = |percentiles, pair| pair.map(|frame| percentiles[frame]);
+
+/// The frame next to another on the reference's side.
+fn neighbour_of(stack: Stack, frame: usize) -> usize {
+    match frame < stack.reference {
+        true => frame + 1,
+        false => frame - 1,
+    }
+}
+
+/// A frame's neighbour and the frame, out of a sound stack.
+fn pair(stack: Stack<'_>, frame: usize, cuts: Cuts) -> [Exposure<'_>; 2] {
+    let (width, height) = (stack.widths[0], stack.heights[0]);
+    let numbers = [neighbour_of(stack, frame), frame];
+    let percentiles = cuts(stack.percentiles, numbers);
+    [0, 1].map(|at: usize| {
+        let samples = &stack.samples[numbers[at] * width * height..][..width * height];
+        Exposure::new(Frame::new(samples, width, height), percentiles[at])
+    })
+}
+
+/// The step of each frame of a sound stack against its neighbour; (0, 0) for the reference.
+pub fn steps(stack: Stack, options: &Options, cuts: Cuts) -> Vec<(i32, i32)> {
+    let step_of = |frame| match frame == stack.reference {
+        true => (0, 0),
+        false => {
+            let [neighbour, frame] = pair(stack, frame, cuts);
+            let step = step(neighbour, frame, options).shift;
+            (step.x, step.y)
+        }
+    };
+    (0..stack.widths.len()).map(step_of).collect()
+}
+
+/// The shift list of a sound stack: for each frame the steps from the reference to it.
+pub fn align_stack(stack: Stack, options: &Options) -> Vec<i32> {
+    let steps = steps(stack, options, OWN);
+    let shift = |frame: usize| {
+        let (mut at, mut sum) = (frame, (0, 0));
+        while at != stack.reference {
+            sum = (sum.0 + steps[at].0, sum.1 + steps[at].1);
+            at = neighbour_of(stack, at);
+        }
+        [sum.0, sum.1]
+    };
+    (0..steps.len()).flat_map(shift).collect()
+}
+
+/// The rivals of a frame of a sound stack around a step. Each place of the window but those
+/// next to the step is counted by the original.
+pub fn rivals(
+    stack: Stack,
+    (frame, step): (usize, (i32, i32)),
+    options: &Options,
+    rivalry: &Rivalry,
+    cuts: Cuts,
+) -> Vec<Record> {
+    let [here, there] = pair(stack, frame, cuts).map(|Exposure { frame, percentile }| {
+        let size = (frame.width, frame.height);
+        packed(frame.samples, size, percentile, options.tolerance)
+    });
+    let both = |(x, y): (i32, i32)| {
+        let at = naive::geometry::Shift::new(x, y);
+        let compared = compared(&here.exclusion, &there.exclusion, at);
+        (disagreement(&here, &there, Shift::new(x, y)), compared)
+    };
+
+    let (of_step, _) = both(step);
+    let reach = rivalry.reach as i32;
+    let mut records = Vec::new();
+    for down in -reach..=reach {
+        for right in -reach..=reach {
+            if TO_NEIGHBOURS.contains(&(right, down)) {
+                continue;
+            }
+            let (x, y) = (step.0 + right, step.1 + down);
+            let (disagreeing, compared) = both((x, y));
+            let more = i128::from(disagreeing) - i128::from(of_step);
+            if compared >= u64::from(rivalry.floor) && more <= i128::from(rivalry.margin) {
+                records.push(Record {
+                    frame: frame as u32,
+                    x,
+                    y,
+                    disagreeing: disagreeing as u32,
+                    compared: compared as u32,
+                });
+            }
+        }
+    }
+    records
+}
+
+/// The report of a sound stack. The verdict is told from the records.
+pub fn report(stack: Stack, options: &Options, rivalry: &Rivalry) -> Report {
     let mut records = Vec::new();
     let mut verdicts = Vec::new();
-    for frame in 0..bitmaps.len() {
+    for (frame, step) in steps(stack, options, OWN).into_iter().enumerate() {
         if frame == stack.reference {
             verdicts.push(0);
             continue;
         }
-        let neighbour = if frame < stack.reference {
-            frame + 1
-        } else {
-            frame - 1
-        };
-        let step = (at(frame).0 - at(neighbour).0, at(frame).1 - at(neighbour).1);
-        let (here, there) = (&bitmaps[neighbour], &bitmaps[frame]);
-        let both = |(x, y): (i32, i32)| {
-            let at = naive::geometry::Shift::new(x, y);
-            let compared = compared(&here.exclusion, &there.exclusion, at);
-            (disagreement(here, there, Shift::new(x, y)), compared)
-        };
-
-        let (of_step, _) = both(step);
-        let own = records.len();
-        let reach = rivalry.reach as i32;
-        for down in -reach..=reach {
-            for right in -reach..=reach {
-                if TO_NEIGHBOURS.contains(&(right, down)) {
-                    continue;
-                }
-                let (x, y) = (step.0 + right, step.1 + down);
-                let (disagreeing, compared) = both((x, y));
-                let more = i128::from(disagreeing) - i128::from(of_step);
-                if compared >= u64::from(rivalry.floor) && more <= i128::from(rivalry.margin) {
-                    records.push(Record {
-                        frame: frame as u32,
-                        x,
-                        y,
-                        disagreeing: disagreeing as u32,
-                        compared: compared as u32,
-                    });
-                }
-            }
-        }
-        let rivals = &records[own..];
+        let rivals = rivals(stack, (frame, step), options, rivalry, OWN);
         let step_is_rival = rivals.iter().any(|rival| (rival.x, rival.y) == step);
         verdicts.push(match (step_is_rival, rivals.len()) {
             (false, _) => 1,
             (true, 1) => 2,
             (true, _) => 3,
         });
+        records.extend(rivals);
     }
 
+    let shifts = align_stack(stack, options);
+    let (width, height) = (stack.widths[0], stack.heights[0]);
     let crop = original::common_crop(&shifts, width, height).expect("a crop of any shifts");
     Report {
         shifts,

@@ -49,7 +49,7 @@ pub fn run(calls: &[Call], who: &str) -> ExitCode {
                 return ExitCode::FAILURE;
             }
         }
-        println!("{:18} {:5} cases agreed", call.name, call.cases);
+        println!("{:19} {:5} cases agreed", call.name, call.cases);
         total += call.cases;
     }
     println!("total {total} cases agreed: {who}");

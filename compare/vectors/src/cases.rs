@@ -41,26 +41,48 @@ pub fn accepted<C: Case>(cases: impl IntoIterator<Item = C>) -> Vec<String> {
 /// the check that must answer: breaks stand in the order of the checks.
 fn broken<C: Case>(sound: &C, breaks: &[Break<C>]) -> Vec<(u32, C)> {
     let mut cases = Vec::new();
-    let mut checks = breaks.chunk_by(|(one, _), (next, _)| one == next);
+    let mut checks = checks(breaks);
     while let Some(of_check) = checks.next() {
-        for (number, &(check, change)) in of_check.iter().enumerate() {
-            let mut once = sound.clone();
-            change(&mut once);
+        for (number, &one) in of_check.iter().enumerate() {
             let how_many = if number == 0 { breaks.len() } else { 1 };
-            for later in checks.clone().take(how_many) {
-                let mut twice = once.clone();
-                later[0].1(&mut twice);
-                cases.push((check, twice));
-            }
-            cases.push((check, once));
+            cases.extend(beside(sound, one, checks.clone().take(how_many)));
         }
     }
+    cases
+}
+
+/// The breaks of each check.
+fn checks<C>(breaks: &[Break<C>]) -> impl Iterator<Item = &[Break<C>]> + Clone {
+    breaks.chunk_by(|(one, _), (next, _)| one == next)
+}
+
+/// A sound input under one break, with the first break of each of these checks, then alone.
+fn beside<'a, C: Case + 'a>(
+    sound: &C,
+    (check, change): Break<C>,
+    later: impl Iterator<Item = &'a [Break<C>]>,
+) -> Vec<(u32, C)> {
+    let mut once = sound.clone();
+    change(&mut once);
+    let with = |later: &[Break<C>]| {
+        let mut twice = once.clone();
+        later[0].1(&mut twice);
+        (check, twice)
+    };
+    let mut cases: Vec<_> = later.map(with).collect();
+    cases.push((check, once));
     cases
 }
 
 /// The lines of broken inputs, each refused with the number of its check.
 pub fn refused<C: Case>(sound: &C, breaks: &[Break<C>]) -> Vec<String> {
     stated(broken(sound, breaks))
+}
+
+/// The same for breaks of one check, each also with every later check broken.
+pub fn refused_first<C: Case>(sound: &C, breaks: &[Break<C>], later: &[Break<C>]) -> Vec<String> {
+    let cases = |&one| beside(sound, one, checks(later));
+    stated(breaks.iter().flat_map(cases))
 }
 
 /// The lines of broken inputs, each answered with the empty part.
@@ -84,7 +106,8 @@ pub fn lines<C: Case>(
     [accepted(cases), refused(&sound, breaks)].concat()
 }
 
-/// The naive answer, which the original must share where the call is accepted.
+/// The naive answer, which the original, or what is counted again with its parts, must share
+/// where the call is accepted.
 pub fn agreed<T: PartialEq + Debug>(
     naive: Result<T, Refusal>,
     original: impl FnOnce() -> Result<T, Refusal>,

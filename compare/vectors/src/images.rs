@@ -221,7 +221,7 @@ pub fn pyramid(random: &mut Random) -> Vec<String> {
     };
     let mut cases = Vec::new();
     for size in pyramid_sizes(random) {
-        let (bits, spare) = (options(random).bits, random.below(3));
+        let (bits, spare) = (options(random).0.bits, random.below(3));
         cases.push(image(random, size, bits, spare));
     }
     let breaks = [Image::size_breaks(), SCRATCH_BREAKS.to_vec()].concat();
@@ -258,7 +258,7 @@ impl Case for Image<Asking> {
 /// Every level of a frame and two past the last, out of its own pyramid.
 fn all_levels(random: &mut Random, size: Size) -> Vec<Image<Asking>> {
     let samples = frame(random, size);
-    let (bits, shrink) = (options(random).bits, shrink(random));
+    let (bits, shrink) = (options(random).0.bits, shrink(random));
     let halved = recount::halved_levels(Frame::new(&samples, size.0, size.1), bits, shrink);
     let mut scratch = halved.concat();
     scratch.resize(scratch.len() + random.below(3), 99);

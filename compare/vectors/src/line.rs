@@ -3,7 +3,7 @@
 use std::fmt::{Display, Write};
 
 use naive::Refusal;
-use naive::align::{Options, Scratch, Step};
+use naive::align::{Exposure, Options, Scratch, Stack, Step};
 use naive::difference::Counts;
 use naive::geometry::{Crop, Shift};
 use naive::gray::Frame;
@@ -44,6 +44,19 @@ impl Line {
             .numbers([frame.width, frame.height])
     }
 
+    /// A frame of a step, and after it its percentile.
+    pub fn exposure(self, exposure: Exposure) -> Self {
+        self.frame(exposure.frame).number(exposure.percentile)
+    }
+
+    pub fn stack(self, stack: Stack) -> Self {
+        self.list(stack.samples)
+            .list(stack.widths)
+            .list(stack.heights)
+            .list(stack.percentiles)
+            .number(stack.reference)
+    }
+
     pub fn shift(self, shift: Shift) -> Self {
         self.numbers([shift.x, shift.y])
     }
@@ -51,7 +64,6 @@ impl Line {
     pub fn options(self, options: &Options) -> Self {
         self.number(options.bits)
             .number(options.tolerance)
-            .number(options.percentile)
             .number(mode(options.shrink))
     }
 

@@ -17,6 +17,7 @@ mod reports;
 mod shifts;
 mod stacks;
 mod steps;
+mod unequal;
 
 use std::collections::{BTreeMap, BTreeSet};
 use std::io;

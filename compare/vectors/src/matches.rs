@@ -2,7 +2,8 @@
 //! nine that disagrees in no pixel.
 
 use naive::align::Options;
-use naive::stacksteps::OPTIONS;
+use naive::refusals::HIGHEST_PERCENTILE;
+use naive::stacksteps::{OPTIONS, PERCENTILE};
 use trials::inputs::Random;
 use trials::matches::{self, Pair};
 
@@ -18,6 +19,7 @@ fn counted(samples: [Vec<u8>; 2], size: Size, options: Options, comparisons: u64
     let pair = Pair {
         samples,
         size,
+        percentiles: [PERCENTILE; 2],
         options,
     };
     Counted { pair, comparisons }
@@ -32,6 +34,7 @@ pub fn all(random: &mut Random) -> Vec<Counted> {
             all.push(Counted { pair, comparisons });
         }
     }
+    all.push(one_pixel());
     all
 }
 
@@ -45,7 +48,19 @@ fn nothing_compared() -> Counted {
     counted(samples, (2, 1), options, 2)
 }
 
-/// A frame and itself: one comparison at each of four levels.
+/// One pixel and itself, of which one cut is 0 and the other 201: it disagrees at the centre,
+/// and the second candidate compares nothing.
+fn one_pixel() -> Counted {
+    let options = Options {
+        tolerance: 0,
+        ..OPTIONS
+    };
+    let mut one = counted([vec![200], vec![200]], (1, 1), options, 2);
+    one.pair.percentiles = [PERCENTILE, HIGHEST_PERCENTILE];
+    one
+}
+
+/// A frame and itself, cut alike: one comparison at each of four levels.
 fn equal(random: &mut Random) -> Counted {
     let frame = random.bytes(24 * 20);
     counted([frame.clone(), frame], (24, 20), OPTIONS, 4)

@@ -5,7 +5,7 @@ use naive::align::Options;
 use naive::geometry::Shift;
 use naive::report::{ALONE, CONTESTED, Record, Rivalry, WEAK};
 use naive::shrink::Shrink;
-use naive::stacksteps::OPTIONS;
+use naive::stacksteps::{OPTIONS, PERCENTILE};
 use trials::frames::Frames;
 use trials::inputs::Random;
 
@@ -47,7 +47,7 @@ fn probed(size: Size, step: Shift, reach: i32, probes: &[Probe]) -> Frames {
             second[at(x, y)] = sample((right, down));
         }
     }
-    Frames::of_one_size(vec![first, second], size, 0)
+    Frames::alike(vec![first, second], size, PERCENTILE, 0)
 }
 
 /// A case whose second frame has this step, this verdict and rivals at these offsets.

@@ -4,18 +4,17 @@ use std::collections::BTreeSet;
 
 use naive::align::{Options, Scratch};
 use naive::refusals::{
-    FARTHEST_REACH, LONGEST_SIDE, MOST_FRAMES, REACH_TOO_FAR, RECORD_SPACE_TOO_SHORT,
-    TOO_MANY_FRAMES, WRONG_LENGTH,
+    FARTHEST_REACH, LONGEST_SIDE, MOST_FRAMES, REACH_TOO_FAR, RECORD_SPACE_TOO_SHORT, WRONG_LENGTH,
 };
 use naive::report::{CONTESTED, RECORD_BYTES, REFERENCE, Record, Rivalry};
-use naive::stacksteps::{OPTIONS, RIVALRY};
+use naive::stacksteps::{OPTIONS, PERCENTILE, RIVALRY};
 use trials::frames::Frames;
 use trials::inputs::{Random, options};
 
 use crate::cases::{Break, Size, accepted, frames, refused, sizes_and_longest};
-use crate::neighbours;
-use crate::stacks::{Asked, SCRATCH_BREAKS, STACK_BREAKS, no_frame, walks};
-use crate::steps::{EDGES, MANY_BITS};
+use crate::stacks::{Asked, SCRATCH_BREAKS, no_frame, seventeen, stack_breaks, walks};
+use crate::steps::{EDGES, MANY_BITS, USUAL};
+use crate::{neighbours, unequal};
 
 /// Seventeen rivals a frame: of a window of 5 by 5 all but the neighbour shifts.
 const ALL_NEARBY: Rivalry = Rivalry {
@@ -65,8 +64,8 @@ pub fn report(random: &mut Random) -> Vec<String> {
         } else {
             1 + number % 3
         };
-        let (options, rivalry) = (options(random), rivalry(random, size));
-        cases.push(Asked::any(random, size, count, options, Some(rivalry)));
+        let (settings, rivalry) = (options(random), rivalry(random, size));
+        cases.push(Asked::any(random, size, count, settings, Some(rivalry)));
     }
     for (size, count) in [
         ((24, 20), 4),
@@ -74,9 +73,9 @@ pub fn report(random: &mut Random) -> Vec<String> {
         ((8, 6), MOST_FRAMES),
         ((18, 30), 4),
     ] {
-        for options in [OPTIONS, options(random)] {
+        for settings in [USUAL, options(random)] {
             let rivalry = rivalry(random, size);
-            cases.push(Asked::any(random, size, count, options, Some(rivalry)));
+            cases.push(Asked::any(random, size, count, settings, Some(rivalry)));
         }
     }
     // The farthest reach, where most of the window compares nothing.
@@ -86,22 +85,17 @@ pub fn report(random: &mut Random) -> Vec<String> {
         margin: 3,
     };
     let frames = vec![random.bytes(20), random.bytes(20), random.bytes(20)];
-    let noise = Frames::of_one_size(frames, (5, 4), 1);
+    let noise = Frames::alike(frames, (5, 4), PERCENTILE, 1);
     let asked = Asked::of(random, noise, OPTIONS, Some(farthest));
     assert_eq!(asked.report().verdicts, [CONTESTED, REFERENCE, CONTESTED]);
     cases.push(asked);
     // A step that disagrees, so that its count and the margin pass 32 bits.
     let frames = vec![random.bytes(63), random.bytes(63)];
-    let noise = Frames::of_one_size(frames, (9, 7), 0);
+    let noise = Frames::alike(frames, (9, 7), PERCENTILE, 0);
     cases.push(Asked::of(random, noise, OPTIONS, Some(ALL_NEARBY)));
 
-    let breaks = [
-        &STACK_BREAKS[..],
-        &REPORT_BREAKS,
-        &SCRATCH_BREAKS,
-        &RECORD_BREAKS,
-    ]
-    .concat();
+    let of_report = [&REPORT_BREAKS[..], &SCRATCH_BREAKS, &RECORD_BREAKS].concat();
+    let breaks = [stack_breaks(), of_report.clone()].concat();
     let sound = Asked::sound(random, Some(ALL_NEARBY));
     [
         accepted(cases),
@@ -115,11 +109,12 @@ pub fn report(random: &mut Random) -> Vec<String> {
         short_of_space(random),
         accepted(bounds(random)),
         accepted(references(random)),
-        seventeen(random),
+        seventeen(random, Some(ALL_NEARBY)),
         accepted(pins(random)),
-        accepted(EDGES.map(|options| Asked::any(random, (8, 7), 3, options, Some(FEW_NEARBY)))),
+        accepted(EDGES.map(|settings| Asked::any(random, (8, 7), 3, settings, Some(FEW_NEARBY)))),
         many_records(random),
         accepted(neighbours::cases(random)),
+        unequal::lines(random, Some(ALL_NEARBY), &of_report),
     ]
     .concat()
 }
@@ -136,7 +131,7 @@ fn many_records(random: &mut Random) -> Vec<String> {
 fn noise_of(random: &mut Random, records: usize) -> Asked {
     loop {
         let noise = vec![random.bytes(225), random.bytes(225)];
-        let frames = Frames::of_one_size(noise, (15, 15), 0);
+        let frames = Frames::alike(noise, (15, 15), PERCENTILE, 0);
         let mut asked = Asked::of(random, frames, OPTIONS, Some(reaching(29, ALL_NEARBY)));
         let report = asked.report();
         let is_step = |record: &&Record| [record.x, record.y] == report.shifts[2..];
@@ -172,7 +167,7 @@ fn limits(random: &mut Random) -> Vec<Asked> {
                 margin,
             };
             let frames = vec![random.bytes(40), random.bytes(40), random.bytes(40)];
-            let frames = Frames::of_one_size(frames, (5, 8), 2);
+            let frames = Frames::alike(frames, (5, 8), PERCENTILE, 2);
             cases.push(Asked::of(random, frames, OPTIONS, Some(rivalry)));
         }
     }
@@ -181,7 +176,7 @@ fn limits(random: &mut Random) -> Vec<Asked> {
         random,
         (7, 5),
         1,
-        OPTIONS,
+        USUAL,
         Some(reaching(FARTHEST_REACH, ALL_NEARBY)),
     );
     (one.room.scratch, one.room.records) = (Scratch::NONE, 0);
@@ -192,7 +187,7 @@ fn limits(random: &mut Random) -> Vec<Asked> {
 /// Record space and scratch just as long as needed, and longer.
 fn spaces(random: &mut Random) -> Vec<Asked> {
     let sound = Asked::sound(random, Some(ALL_NEARBY));
-    let few = Asked::any(random, (12, 9), 4, OPTIONS, Some(FEW_NEARBY));
+    let few = Asked::any(random, (12, 9), 4, USUAL, Some(FEW_NEARBY));
     let mut none = few.clone();
     none.rivalry = Some(Rivalry {
         floor: u32::MAX,
@@ -214,7 +209,7 @@ fn short_of_space(random: &mut Random) -> Vec<String> {
         (RECORD_SPACE_TOO_SHORT, |asked| asked.room.records /= 2),
         (RECORD_SPACE_TOO_SHORT, |asked| asked.room.records = 0),
     ];
-    let asked = Asked::any(random, (12, 9), 4, OPTIONS, Some(ALL_NEARBY));
+    let asked = Asked::any(random, (12, 9), 4, USUAL, Some(ALL_NEARBY));
     needing(
         3 * 17,
         refused(&asked.with_space(0).with_scratch(6, 4), &breaks),
@@ -237,7 +232,7 @@ fn bounds(random: &mut Random) -> Vec<Asked> {
     let equal = vec![random.bytes(54); 2];
     let mut cases = Vec::new();
     for (frames, size) in [(noise, (9, 7)), (top.to_vec(), (5, 33)), (equal, (9, 6))] {
-        let frames = Frames::of_one_size(frames, size, 1);
+        let frames = Frames::alike(frames, size, PERCENTILE, 1);
         cases.extend(just_met(random, frames));
     }
     cases
@@ -283,26 +278,11 @@ fn references(random: &mut Random) -> Vec<Asked> {
     for (size, count) in [((12, 9), 5), ((7, 6), MOST_FRAMES)] {
         for reference in [0, count / 2, count - 1] {
             let frames = frames(random, size, count);
-            let frames = Frames::of_one_size(frames, size, reference);
+            let frames = Frames::alike(frames, size, PERCENTILE, reference);
             cases.push(Asked::of(random, frames, OPTIONS, Some(FEW_NEARBY)));
         }
     }
     cases
-}
-
-/// Seventeen frames with all that they would need.
-fn seventeen(random: &mut Random) -> Vec<String> {
-    let size = (3, 2);
-    let sixteen = Asked::any(random, size, MOST_FRAMES, OPTIONS, Some(ALL_NEARBY));
-    let one_more: [Break<Asked>; 1] = [(TOO_MANY_FRAMES, |asked| {
-        asked.frames.samples.extend([5; 6]);
-        asked.frames.widths.push(3);
-        asked.frames.heights.push(2);
-        asked.room.shifts += 2;
-        asked.room.verdicts += 1;
-        asked.room.records += ALL_NEARBY.most_rivals() * RECORD_BYTES;
-    })];
-    [accepted([sixteen.clone()]), refused(&sixteen, &one_more)].concat()
 }
 
 /// A row of equal pins: one pitch beside the step is as good as the step.
@@ -320,7 +300,7 @@ fn pins(random: &mut Random) -> Vec<Asked> {
     };
     let mut cases = Vec::new();
     for frames in [[0, 0, 0], [0, 2, 3]] {
-        let frames = Frames::of_one_size(frames.map(pins).to_vec(), size, 0);
+        let frames = Frames::alike(frames.map(pins).to_vec(), size, PERCENTILE, 0);
         let rivalry = reaching(PITCH as u32, RIVALRY);
         let asked = Asked::of(random, frames, options, Some(rivalry));
         let report = asked.report();

@@ -6,14 +6,15 @@ use naive::refusals::{
     SCRATCH_TOO_SHORT, SIDE_TOO_LONG, SIZES_DIFFER, TOO_MANY_FRAMES, WRONG_LENGTH,
 };
 use naive::report::{RECORD_BYTES, Report, Rivalry, Room};
-use naive::stacksteps::OPTIONS;
+use naive::stacksteps::PERCENTILE;
 use trials::frames::Frames;
 use trials::inputs::{Random, TOO_LONG, options};
 use trials::{original, recount};
 
 use crate::cases::{Break, Case, Size, accepted, agreed, frames, refused, sizes_and_longest};
 use crate::line::{Answered, Line};
-use crate::steps::{MANY_BITS, SOUND, ample};
+use crate::steps::{MANY_BITS, SOUND, Settings, USUAL, ample};
+use crate::unequal;
 
 /// A stack and how it is asked; with a rivalry for a report, else for its shifts.
 #[derive(Clone)]
@@ -29,11 +30,11 @@ impl Asked {
         random: &mut Random,
         size: Size,
         count: usize,
-        options: Options,
+        (options, percentile): Settings,
         rivalry: Option<Rivalry>,
     ) -> Self {
         let frames = frames(random, size, count);
-        let frames = Frames::of_one_size(frames, size, random.below(count));
+        let frames = Frames::alike(frames, size, percentile, random.below(count));
         Self::of(random, frames, options, rivalry)
     }
 
@@ -64,7 +65,7 @@ impl Asked {
 
     /// A stack that just has what it needs, for a report as many rivals as can be.
     pub fn sound(random: &mut Random, rivalry: Option<Rivalry>) -> Self {
-        let mut asked = Self::any(random, SOUND, 3, OPTIONS, rivalry);
+        let mut asked = Self::any(random, SOUND, 3, USUAL, rivalry);
         asked.frames.reference = 1;
         asked.room.scratch = asked.needed();
         asked.room.records = rivalry.map_or(0, |r| 2 * r.most_rivals() * RECORD_BYTES);
@@ -101,18 +102,22 @@ impl Asked {
 impl Case for Asked {
     fn answered(&self) -> Answered {
         let (stack, options, room) = (self.frames.stack(), &self.options, self.room);
-        let line = Line::new()
-            .list(stack.samples)
-            .list(stack.widths)
-            .list(stack.heights)
-            .number(stack.reference)
-            .options(options);
+        let line = Line::new().stack(stack).options(options);
+        let as_original = |shifts: &Vec<i32>| {
+            if original::has_one(stack.percentiles) {
+                assert_eq!(original::align_stack(stack, options).as_ref(), Ok(shifts));
+            }
+        };
         let Some(rivalry) = &self.rivalry else {
             let naive = align::align_stack(stack, options, room.shifts, room.scratch);
             return line
                 .number(room.shifts)
                 .scratch(room.scratch, &naive, || self.needed())
-                .answer(agreed(naive, || original::align_stack(stack, options)));
+                .answer(agreed(naive, || {
+                    let shifts = recount::align_stack(stack, options);
+                    as_original(&shifts);
+                    Ok(shifts)
+                }));
         };
         let naive = naive::report::report(stack, options, rivalry, room);
         line.numbers([rivalry.reach, rivalry.floor, rivalry.margin])
@@ -120,13 +125,15 @@ impl Case for Asked {
             .scratch(room.scratch, &naive, || self.needed())
             .number(room.records)
             .answer(agreed(naive, || {
-                Ok(recount::report(stack, options, rivalry))
+                let report = recount::report(stack, options, rivalry);
+                as_original(&report.shifts);
+                Ok(report)
             }))
     }
 }
 
-/// The checks of a stack up to the shift list.
-pub const STACK_BREAKS: [Break<Asked>; 18] = [
+/// The checks of a stack up to the lengths of its lists.
+pub const LIST_BREAKS: [Break<Asked>; 5] = [
     (TOO_MANY_FRAMES, |asked| {
         asked.frames.widths.resize(MOST_FRAMES + 1, SOUND.0);
         asked.frames.heights.resize(MOST_FRAMES + 1, SOUND.1);
@@ -141,12 +148,34 @@ pub const STACK_BREAKS: [Break<Asked>; 18] = [
     (WRONG_LENGTH, |asked| {
         asked.frames.widths.extend([SOUND.0; 2])
     }),
+];
+
+/// The list of percentiles empty, one short and one long.
+pub const PERCENTILES_BREAKS: [Break<Asked>; 3] = [
+    (WRONG_LENGTH, |asked| asked.frames.percentiles.clear()),
+    (WRONG_LENGTH, |asked| _ = asked.frames.percentiles.pop()),
+    (WRONG_LENGTH, |asked| {
+        asked.frames.percentiles.push(PERCENTILE)
+    }),
+];
+
+pub const SIDE_BREAKS: [Break<Asked>; 3] = [
     (SIDE_TOO_LONG, |asked| asked.frames.widths[0] = TOO_LONG),
     (SIDE_TOO_LONG, |asked| asked.frames.heights[1] = TOO_LONG),
     (SIDE_TOO_LONG, |asked| asked.frames.heights[2] = 1 << 32),
-    (NO_PERCENTILE, |asked| {
-        asked.options.percentile = HIGHEST_PERCENTILE + 1
-    }),
+];
+
+/// All percentiles over the highest, and each of the three.
+pub const PERCENTILE_BREAKS: [Break<Asked>; 4] = [
+    (NO_PERCENTILE, |asked| asked.frames.percentiles.fill(OVER)),
+    (NO_PERCENTILE, |asked| asked.frames.percentiles[0] = OVER),
+    (NO_PERCENTILE, |asked| asked.frames.percentiles[1] = OVER),
+    (NO_PERCENTILE, |asked| asked.frames.percentiles[2] = OVER),
+];
+const OVER: u8 = HIGHEST_PERCENTILE + 1;
+
+/// The checks of a stack after its percentiles, up to the shift list.
+pub const LATER_BREAKS: [Break<Asked>; 9] = [
     (NO_SUCH_REFERENCE, |asked| asked.frames.reference = 3),
     (NO_SUCH_REFERENCE, |asked| asked.frames.reference = 1 << 32),
     (SIZES_DIFFER, |asked| asked.frames.heights[0] += 1),
@@ -166,6 +195,18 @@ pub const SCRATCH_BREAKS: [Break<Asked>; 3] = [
     }),
 ];
 
+/// The checks of a stack up to the shift list. Those of its percentiles, but for all being over
+/// the highest, are broken in `unequal.rs`.
+pub fn stack_breaks() -> Vec<Break<Asked>> {
+    [
+        &LIST_BREAKS[..],
+        &SIDE_BREAKS,
+        &PERCENTILE_BREAKS[..1],
+        &LATER_BREAKS,
+    ]
+    .concat()
+}
+
 /// Sizes of the walk that differ more than once; the first met is named.
 pub fn walks(random: &mut Random, rivalry: Option<Rivalry>) -> Vec<String> {
     let differ: [Break<Asked>; 4] = [
@@ -180,7 +221,7 @@ pub fn walks(random: &mut Random, rivalry: Option<Rivalry>) -> Vec<String> {
         }),
         (SIZES_DIFFER, |asked| asked.frames.heights[2] = 1),
     ];
-    let mut asked = Asked::any(random, SOUND, 5, OPTIONS, rivalry);
+    let mut asked = Asked::any(random, SOUND, 5, USUAL, rivalry);
     asked.frames.reference = 2;
     refused(&asked, &differ)
 }
@@ -191,10 +232,33 @@ pub fn no_frame(random: &mut Random, rivalry: Option<Rivalry>) -> Vec<String> {
         asked.frames.samples.clear();
         asked.frames.widths.clear();
         asked.frames.heights.clear();
+        asked.frames.percentiles.clear();
         asked.frames.reference = 0;
         (asked.room.shifts, asked.room.verdicts) = (0, 0);
     })];
     refused(&Asked::sound(random, rivalry), &none)
+}
+
+/// Seventeen frames with all that they would need, and seventeen percentiles for sixteen.
+pub fn seventeen(random: &mut Random, rivalry: Option<Rivalry>) -> Vec<String> {
+    let size = (3, 2);
+    let sixteen = Asked::any(random, size, MOST_FRAMES, USUAL, rivalry);
+    let one_more: [Break<Asked>; 2] = [
+        (TOO_MANY_FRAMES, |asked| {
+            asked.frames.samples.extend([5; 6]);
+            asked.frames.widths.push(3);
+            asked.frames.heights.push(2);
+            asked.frames.percentiles.push(PERCENTILE);
+            asked.room.shifts += 2;
+            asked.room.verdicts += 1;
+            let most_rivals = asked.rivalry.map_or(0, |rivalry| rivalry.most_rivals());
+            asked.room.records += most_rivals * RECORD_BYTES;
+        }),
+        (WRONG_LENGTH, |asked| {
+            asked.frames.percentiles.push(PERCENTILE)
+        }),
+    ];
+    [accepted([sixteen.clone()]), refused(&sixteen, &one_more)].concat()
 }
 
 pub fn align_stack(random: &mut Random) -> Vec<String> {
@@ -205,8 +269,8 @@ pub fn align_stack(random: &mut Random) -> Vec<String> {
         } else {
             1 + number % 4
         };
-        let options = options(random);
-        cases.push(Asked::any(random, size, count, options, None));
+        let settings = options(random);
+        cases.push(Asked::any(random, size, count, settings, None));
     }
     for (size, count) in [
         ((24, 20), 5),
@@ -214,17 +278,19 @@ pub fn align_stack(random: &mut Random) -> Vec<String> {
         ((8, 6), MOST_FRAMES),
         ((20, 30), 4),
     ] {
-        for options in [OPTIONS, options(random)] {
-            cases.push(Asked::any(random, size, count, options, None));
+        for settings in [USUAL, options(random)] {
+            cases.push(Asked::any(random, size, count, settings, None));
         }
     }
-    let breaks = [&STACK_BREAKS[..], &SCRATCH_BREAKS].concat();
+    let breaks = [stack_breaks(), SCRATCH_BREAKS.to_vec()].concat();
     [
         accepted(cases),
         refused(&Asked::sound(random, None), &breaks),
         walks(random, None),
         no_frame(random, None),
         accepted([Asked::any(random, (19, 34), 3, MANY_BITS, None)]),
+        seventeen(random, None),
+        unequal::lines(random, None, &SCRATCH_BREAKS),
     ]
     .concat()
 }

@@ -145,17 +145,25 @@ pub record Stack : Type 0 where
   pub percentile : ℕ → ℕ
   pub options : Options
 
--- The stack of a call: as many frames as widths, all of the first one's size once 01's checks pass, cut at one percentile.
-unfoldable pub stackOf : List ℕ → List ℕ → List ℕ → ℕ → ℕ → Options → Stack
-stackOf widths heights samples reference percentile options = record {
+-- As many frames as widths, all of the first one's size once 01's checks pass, frame k cut at percentile k.
+abbrev pub stackCutAt : (ℕ → ℕ) → List ℕ → List ℕ → List ℕ → ℕ → Options → Stack
+stackCutAt percentile widths heights samples reference options = record {
   width = getD widths 0 0;
   height = getD heights 0 0;
   frames = length widths;
   samples = samples;
   reference = reference;
-  percentile = λ (k : ℕ). percentile;
+  percentile = percentile;
   options = options;
 }
+
+-- The stack of a call, each frame cut at its own percentile. Past the last frame the list gives 0, on which nothing rests.
+unfoldable pub stackOf : List ℕ → List ℕ → List ℕ → List ℕ → ℕ → Options → Stack
+stackOf widths heights percentiles samples reference options = stackCutAt (λ (k : ℕ). getD percentiles k 0) widths heights samples reference options
+
+-- The stack of the Rust's `align_stack`: all frames cut at one percentile.
+unfoldable pub stackAtOne : List ℕ → List ℕ → ℕ → List ℕ → ℕ → Options → Stack
+stackAtOne widths heights percentile samples reference options = stackCutAt (λ (k : ℕ). percentile) widths heights samples reference options
 
 -- Frame k with its percentile. A frame past the last has no sample.
 unfoldable pub exposure : Stack → ℕ → Exposure

@@ -46,13 +46,17 @@ last-two-rows = refl
 abbrev usual : Options
 usual = record { bits = 6; tolerance = 4; shrink = average }
 
+-- All samples are trusted but those at the cut.
+abbrev untolerant : Options
+untolerant = record { bits = 6; tolerance = 0; shrink = average }
+
 -- The step of two empty frames, where Ward's is (-1, -1).
 empty-frames : step usual 0 0 (record { samples = []; percentile = 50 }) (record { samples = []; percentile = 50 }) ≡ origin
 unfolding sum sideAt overlap counts levels nine leastFrom earliestLeast refine countsAt stepAt step
 empty-frames = refl
 
 -- Two samples each, both compared, both disagreeing: the first candidate beside the centre compares nothing, wins, and is the last tried.
-nothing-compared-wins : stepped (record { bits = 6; tolerance = 0; shrink = average }) 2 1 (record { samples = 0 ∷ 255 ∷ []; percentile = 50 })
+nothing-compared-wins : stepped untolerant 2 1 (record { samples = 0 ∷ 255 ∷ []; percentile = 50 })
     (record { samples = 255 ∷ 0 ∷ []; percentile = 50 }) ≡ record { shift = shift (negsuc 0) (negsuc 0); comparisons = 2 }
 unfolding sum countIf build indexOf source atSources sideAt levelOf bins target binsAdded cut thresholdBit exclusionBit bitmapsOf
     comparedBit disagreeingBit overlap counts logUpTo log2 levels nine leastFrom earliestLeast refine bitmapsAt countsAt stepAt step
@@ -75,7 +79,7 @@ next-door = (refl, refl)
 
 -- Two frames of card D's row.
 abbrev twice : Stack
-twice = stackOf (4 ∷ 4 ∷ []) (1 ∷ 1 ∷ []) (0 ∷ 10 ∷ 20 ∷ 30 ∷ 0 ∷ 10 ∷ 20 ∷ 30 ∷ []) 0 50 usual
+twice = stackOf (4 ∷ 4 ∷ []) (1 ∷ 1 ∷ []) (50 ∷ 50 ∷ []) (0 ∷ 10 ∷ 20 ∷ 30 ∷ 0 ∷ 10 ∷ 20 ∷ 30 ∷ []) 0 usual
 
 abbrev terms : ℕ → ℕ → Terms
 terms f m = record { reach = 2; floor = f; margin = m }
@@ -87,6 +91,26 @@ unfolding sum countIf build joined keepIf indexOf source atSources sideAt levelO
     comparedBit disagreeingBit overlap counts logUpTo log2 levels nine leastFrom earliestLeast refine bitmapsAt countsAt stepAt step
     stackOf exposure neighbour stepOf window distance isNeighbourShift comesClose isRival survey frameCounts limitOf rivals verdict
 verdict-of-each-kind = (refl, refl, refl, refl)
+
+-- One pixel of 200 in each of two frames, which are cut at percentiles of their own.
+abbrev one-pixel : ℕ → ℕ → Stack
+one-pixel p p′ = stackOf (1 ∷ 1 ∷ []) (1 ∷ 1 ∷ []) (p ∷ p′ ∷ []) (200 ∷ 200 ∷ []) 0 untolerant
+
+-- The cut at 50 is 0, below the sample, and the cut at 100 is 201, above it: so the frames disagree, whichever has which.
+each-at-its-own : (frameCounts (one-pixel 50 100) 1 origin ≡ record { disagreeing = 1; compared = 1 })
+    × (frameCounts (one-pixel 100 50) 1 origin ≡ record { disagreeing = 1; compared = 1 })
+    × (frameCounts (one-pixel 100 100) 1 origin ≡ record { disagreeing = 0; compared = 1 })
+unfolding sum countIf build joined indexOf source atSources sideAt levelOf bins target binsAdded cut thresholdBit exclusionBit bitmapsOf
+    comparedBit disagreeingBit overlap counts bitmapsAt countsAt stackOf exposure neighbour frameCounts
+each-at-its-own = (refl, refl, refl)
+
+-- Then the second candidate wins, since it compares nothing.
+one-pixel-step : stepped untolerant 1 1 (record { samples = 200 ∷ []; percentile = 50 })
+    (record { samples = 200 ∷ []; percentile = 100 }) ≡ record { shift = shift (negsuc 0) (negsuc 0); comparisons = 2 }
+unfolding sum countIf build joined indexOf source atSources sideAt levelOf bins target binsAdded cut thresholdBit exclusionBit bitmapsOf
+    comparedBit disagreeingBit overlap counts logUpTo log2 levels nine leastFrom earliestLeast refine upToZero tried bitmapsAt countsAt stepAt
+    comparisonsAt step comparisons stepped
+one-pixel-step = refl
 
 -- The mean of four samples, and the upper left one.
 two-ways-to-halve : (shrink2 average 2 2 (0 ∷ 0 ∷ 1 ∷ 1 ∷ []) ≡ 1 ∷ []) × (shrink2 subsample 2 2 (0 ∷ 0 ∷ 1 ∷ 1 ∷ []) ≡ 0 ∷ [])
@@ -125,6 +149,16 @@ unfolding answer sideOver wrongLength percentileOver cutChecks
 first-check-first = refl
 
 -- Frames of 8 by 8 but for frame 0 and frame 3, the reference 1: the walk meets frame 0 first.
-first-unequal-pair : answer {A = ℕ} (framesChecks (8 ∷ 8 ∷ 8 ∷ 9 ∷ []) (7 ∷ 8 ∷ 8 ∷ 8 ∷ []) 50 1) 0 ≡ refused 4 (8 ∷ 8 ∷ 8 ∷ 7 ∷ 0 ∷ [])
+first-unequal-pair : answer {A = ℕ} (framesChecks (8 ∷ 8 ∷ 8 ∷ 9 ∷ []) (7 ∷ 8 ∷ 8 ∷ 8 ∷ []) (83 ∷ 50 ∷ 50 ∷ 17 ∷ []) 1) 0 ≡ refused 4 (8 ∷ 8 ∷ 8 ∷ 7 ∷ 0 ∷ [])
 unfolding answer sideOver wrongLength percentileOver noReference framesOver pairDiffers framesChecks build walk neighbour
 first-unequal-pair = refl
+
+-- Two frames with one percentile, which is over 100, and no such reference: the list's length comes first.
+percentiles-in-first-lengths : answer {A = ℕ} (framesChecks (8 ∷ 8 ∷ []) (8 ∷ 8 ∷ []) (101 ∷ []) 2) 0 ≡ refused 2 []
+unfolding answer sideOver wrongLength percentileOver noReference framesOver pairDiffers framesChecks build walk neighbour
+percentiles-in-first-lengths = refl
+
+-- The last of two percentiles is over 100, and there is no such reference: 3 comes first.
+any-percentile-over : answer {A = ℕ} (framesChecks (8 ∷ 8 ∷ []) (8 ∷ 8 ∷ []) (100 ∷ 101 ∷ []) 2) 0 ≡ refused 3 []
+unfolding answer sideOver wrongLength percentileOver noReference framesOver pairDiffers framesChecks build walk neighbour
+any-percentile-over = refl

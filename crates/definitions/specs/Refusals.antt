@@ -164,11 +164,12 @@ needChecks w h = sideOver w ∷ sideOver h ∷ []
 unfoldable pub cropChecks : ℕ → ℕ → ℕ → List Check
 cropChecks w h n = sideOver w ∷ sideOver h ∷ record { fails = eqb (n % 2) 1; number = 2; values = [] } ∷ []
 
--- The step of two frames: a reference of w by h and a target of w′ by h′, with the lengths of their samples and of the scratch.
-unfoldable pub stepChecks : ℕ → ℕ → ℕ → ℕ → ℕ → ℕ → ℕ → ℕ → ℕ → ℕ → List Check
-stepChecks w h w′ h′ percentile bits reference target bytes words =
+-- The step of two frames: a reference of w by h at percentile p and a target of w′ by h′ at p′, with the lengths of their samples and
+-- of the scratch.
+unfoldable pub stepChecks : ℕ → ℕ → ℕ → ℕ → ℕ → ℕ → ℕ → ℕ → ℕ → ℕ → ℕ → List Check
+stepChecks w h p w′ h′ p′ bits reference target bytes words =
     sideOver w ∷ sideOver h ∷ sideOver w′ ∷ sideOver h′
-    ∷ percentileOver percentile
+    ∷ percentileOver p ∷ percentileOver p′
     ∷ sizesDiffer w h w′ h′
     ∷ wrongLength reference (w * h) ∷ wrongLength target (w * h)
     ∷ scratchShort bytes (stepBytes w h bits) ∷ scratchShort words (stepWords w h) ∷ []
@@ -184,13 +185,13 @@ pairDiffers widths heights reference k =
     record { fails = unequal w h w′ h′; number = 4; values = w ∷ h ∷ w′ ∷ h′ ∷ k ∷ [] }
 
 -- What a stack and a report check of their frames, the first unequal pair of the walk last.
-unfoldable pub framesChecks : List ℕ → List ℕ → ℕ → ℕ → List Check
-framesChecks widths heights percentile reference =
+unfoldable pub framesChecks : List ℕ → List ℕ → List ℕ → ℕ → List Check
+framesChecks widths heights percentiles reference =
     framesOver (length widths) ∷ framesOver (length heights)
-    ∷ wrongLength (length heights) (length widths)
+    ∷ wrongLength (length heights) (length widths) ∷ wrongLength (length percentiles) (length widths)
     ∷ map sideOver widths ++ map sideOver heights
-    ++ percentileOver percentile
-    ∷ noReference reference (length widths)
+    ++ map percentileOver percentiles
+    ++ noReference reference (length widths)
     ∷ map (pairDiffers widths heights reference) (walk reference (length widths))
 
 -- The scratch of n frames, the first of which has the size that all have once the pairs of the walk are equal.
@@ -199,22 +200,22 @@ stackScratchChecks n w h bits bytes words =
     scratchShort bytes (stackNeed n (stepBytes w h bits)) ∷ scratchShort words (stackNeed n (stepWords w h)) ∷ []
 
 -- The stack, with the lengths of its samples, its shift list and its scratch.
-unfoldable pub stackChecks : List ℕ → List ℕ → ℕ → ℕ → ℕ → ℕ → ℕ → ℕ → ℕ → List Check
-stackChecks widths heights percentile reference bits samples shiftList bytes words =
+unfoldable pub stackChecks : List ℕ → List ℕ → List ℕ → ℕ → ℕ → ℕ → ℕ → ℕ → ℕ → List Check
+stackChecks widths heights percentiles reference bits samples shiftList bytes words =
     let n = length widths in
     let w = getD widths 0 0 in
     let h = getD heights 0 0 in
-    framesChecks widths heights percentile reference
+    framesChecks widths heights percentiles reference
     ++ wrongLength samples (n * (w * h)) ∷ wrongLength shiftList (2 * n)
     ∷ stackScratchChecks n w h bits bytes words
 
 -- The report up to its scratch: as the stack, the verdict list after the shift list, and 9 before 7. What fails here leaves the scratch alone.
-unfoldable pub surveyChecks : List ℕ → List ℕ → ℕ → ℕ → ℕ → ℕ → ℕ → ℕ → ℕ → ℕ → ℕ → List Check
-surveyChecks widths heights percentile reference bits samples shiftList verdictList reach bytes words =
+unfoldable pub surveyChecks : List ℕ → List ℕ → List ℕ → ℕ → ℕ → ℕ → ℕ → ℕ → ℕ → ℕ → ℕ → List Check
+surveyChecks widths heights percentiles reference bits samples shiftList verdictList reach bytes words =
     let n = length widths in
     let w = getD widths 0 0 in
     let h = getD heights 0 0 in
-    framesChecks widths heights percentile reference
+    framesChecks widths heights percentiles reference
     ++ wrongLength samples (n * (w * h)) ∷ wrongLength shiftList (2 * n) ∷ wrongLength verdictList n
     ∷ reachOver reach
     ∷ stackScratchChecks n w h bits bytes words

@@ -9,3 +9,4 @@ pub mod Kept  -- records in a space that may be too short: whole ones only, as m
 pub mod ReadBack  -- the records read back from their bytes: nothing is lost
 pub mod Verdicts  -- what each verdict says of a frame and its rivals
 pub mod Demand  -- what the report owes, in one table
+pub mod AtOne  -- with all percentiles equal, the answers are those at one percentile

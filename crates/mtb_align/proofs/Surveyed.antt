@@ -87,10 +87,10 @@ two-frames {n} {r} {k} apart p q = ⊎-elim
     (lt-or-le 1 n)
 
 -- once they are packed at the front of the words v
-module _ {f : Frames} {samples : List ℕ} (v : List ℕ) (q : Framed f samples (length v)) (two : 1 < f .count) (k : ℕ) {v′ : List ℕ}
-    (stored : v′ ≡ sets v 0 (fourIn (stackIn f samples) (neighbour (f .reference) k) k)) where
+module _ {f : Frames} {percentiles samples : List ℕ} (v : List ℕ) (q : Framed f percentiles samples (length v)) (two : 1 < f .count) (k : ℕ) {v′ : List ℕ}
+    (stored : v′ ≡ sets v 0 (fourIn (stackIn f percentiles samples) (neighbour (f .reference) k) k)) where
   abbrev a : Stack
-  a = stackIn f samples
+  a = stackIn f percentiles samples
 
   abbrev four : List ℕ
   four = fourIn a (neighbour (f .reference) k) k
@@ -109,10 +109,10 @@ module _ {f : Frames} {samples : List ℕ} (v : List ℕ) (q : Framed f samples 
       (q .small .width) (q .small .height))
 
   pub packed-counts : (m : ℕ) → m ≡ 4 * bitmapWords (f .width) (f .height)
-      → pairCounts (take m v′) (f .width) (f .height) ≡ frameCounts (stackIn f samples) k
+      → pairCounts (take m v′) (f .width) (f .height) ≡ frameCounts (stackIn f percentiles samples) k
   packed-counts m e = ap (λ (l : List ℕ). pairCounts l (f .width) (f .height)) (front m e) ∙ counts-frame a k
 
-  pub packed-free : FreeUpTo (stackWords (stackIn f samples)) v v′
+  pub packed-free : FreeUpTo (stackWords (stackIn f percentiles samples)) v v′
   unfolding stepWords
   packed-free =
       need-free (f .count) (stepWords (f .width) (f .height)) two
@@ -138,8 +138,8 @@ step-near a small k e = subst (Within 65536) (sym e) (within-wider (omega arith)
 -- ---- once the walk is made
 
 -- what the survey needs is part of what the walk needs
-pub framed : {f : Frames} {samples : List ℕ} {bytes words v : ℕ} → Ready f samples bytes words → v ≡ words → Framed f samples v
-framed {f} {samples} r e = subst (Framed f samples) (sym e) (r .framed)
+pub framed : {f : Frames} {percentiles samples : List ℕ} {bytes words v : ℕ} → Ready f percentiles samples bytes words → v ≡ words → Framed f percentiles samples v
+framed {f} {percentiles} {samples} r e = subst (Framed f percentiles samples) (sym e) (r .framed)
 
 -- the front of a list, element by element
 pub front-copied : (n : ℕ) (l : List ℕ) → n ≤ length l → build n (λ (k : ℕ). getD l (0 + k) 0) ≡ take n l

@@ -3,7 +3,7 @@ use mathlib.Core.Path.{_≡_, ap, _∙_}
 use mathlib.Core.List.{List}
 use Prim.Native.Nat.{ℕ, _+_, _-_, _*_, _<_, _≤_}
 use native.Mathlib.Omega.{arith}
-use lib.ListN.{length, take, drop, length-drop}
+use lib.ListN.{length, getD, take, drop, length-drop}
 use lib.Seq.{length-take-le}
 use Rattle.definitions.specs.Align.{Exposure, exposure, stepWords}
 use Rattle.laws.specs.images.Sizes.{row-inside}
@@ -11,7 +11,7 @@ use Rattle.laws.specs.search.Walk.{need-two}
 use Rattle.mtb_align.specs.declared.walk.Frames.{Frames}
 use Rattle.mtb_align.specs.Stack.{stackIn, Framed}
 
-module _ {f : Frames} {samples : List ℕ} {words : ℕ} (q : Framed f samples words) where
+module _ {f : Frames} {percentiles samples : List ℕ} {words : ℕ} (q : Framed f percentiles samples words) where
   abbrev size : ℕ
   size = f .width * f .height
 
@@ -29,14 +29,14 @@ module _ {f : Frames} {samples : List ℕ} {words : ℕ} (q : Framed f samples w
   maps-fit two = omega (arith, q .maps, need-two (f .count) (stepWords (f .width) (f .height)) two)
 
 -- A frame with its percentile, as it is taken.
-abbrev pub taken : Frames → List ℕ → ℕ → Exposure
-taken f samples j =
+abbrev pub taken : Frames → List ℕ → List ℕ → ℕ → Exposure
+taken f percentiles samples j =
     let n = f .width * f .height in
-    record { samples = take (j * n + n - j * n) (drop (j * n) samples); percentile = f .options .percentile }
+    record { samples = take (j * n + n - j * n) (drop (j * n) samples); percentile = getD percentiles j 0 }
 
-pub taken-is : (f : Frames) (samples : List ℕ) (j : ℕ) → taken f samples j ≡ exposure (stackIn f samples) j
+pub taken-is : (f : Frames) (percentiles samples : List ℕ) (j : ℕ) → taken f percentiles samples j ≡ exposure (stackIn f percentiles samples) j
 unfolding exposure
-taken-is f samples j =
+taken-is f percentiles samples j =
     let n = f .width * f .height in
     let all : j * n + n - j * n ≡ n = omega arith in
-    ap (λ (m : ℕ). record { samples = take m (drop (j * n) samples); percentile = f .options .percentile }) all
+    ap (λ (m : ℕ). record { samples = take m (drop (j * n) samples); percentile = getD percentiles j 0 }) all

@@ -1,5 +1,5 @@
 -- The walk over a stack as it goes on: the shifts of the frames that are left, put into the list, make the shifts of all.
-use mathlib.Core.Path.{_≡_, refl, sym, ap, _∙_}
+use mathlib.Core.Path.{_≡_, refl, sym, ap, _∙_, subst}
 use mathlib.Core.List.{List, [], _∷_}
 use Prim.Native.Nat.{ℕ, _+_, _-_, _*_, _<_, _≤_}
 use native.Mathlib.Numerals.{add-one}
@@ -20,23 +20,23 @@ use Rattle.laws.specs.search.StepBounds.{Small, shift-reference}
 use Rattle.laws.specs.search.ShiftLists.{listed-x, listed-y}
 use Rattle.laws.specs.general.Writes.{sets-whole, stored-front}
 use Rattle.mtb_align.specs.declared.walk.Frames.{Frames}
-use Rattle.mtb_align.specs.Stack.{stackIn, Ready, listedAt, Placed}
+use Rattle.mtb_align.specs.Stack.{stackIn, Framed, Ready, listedAt, Placed}
 
 -- ---- what the walk has
 
 -- a stack whose checks pass
-pub ready : (f : Frames) (samples : List ℕ) {heights shiftList bytes words : ℕ} → StackInOrder (stackIn f samples) heights shiftList bytes words
-    → Ready f samples bytes words
-ready f samples q = record {
-  framed = record { small = q .small; cut = q .cut 0; all = omega (arith, q .whole); maps = q .maps };
+pub ready : (f : Frames) (percentiles samples : List ℕ) {heights shiftList bytes words : ℕ}
+    → StackInOrder (stackIn f percentiles samples) heights (length percentiles) shiftList bytes words → Ready f percentiles samples bytes words
+ready f percentiles samples q = record {
+  framed = record { small = q .small; each = omega (arith, q .each); cut = q .cut; all = omega (arith, q .whole); maps = q .maps };
   pixels = q .pixels;
 }
 
 -- and scratch of the length that it had
-pub still-ready : (f : Frames) (samples : List ℕ) {bytes bytes′ words words′ : ℕ} → bytes′ ≡ bytes → words′ ≡ words
-    → Ready f samples bytes words → Ready f samples bytes′ words′
-still-ready f samples p q r = record {
-  framed = record { small = r .framed .small; cut = r .framed .cut; all = r .framed .all; maps = omega (arith, r .framed .maps) };
+pub still-ready : (f : Frames) (percentiles samples : List ℕ) {bytes bytes′ words words′ : ℕ} → bytes′ ≡ bytes → words′ ≡ words
+    → Ready f percentiles samples bytes words → Ready f percentiles samples bytes′ words′
+still-ready f percentiles samples p q r = record {
+  framed = subst (Framed f percentiles samples) (sym q) (r .framed);
   pixels = omega (arith, r .pixels);
 }
 

@@ -21,11 +21,12 @@ itself r = r
 pub record StepAsked : Type 0 where
   pub width : ℕ
   pub height : ℕ
+  pub percentile : ℕ
   pub targetWidth : ℕ
   pub targetHeight : ℕ
+  pub targetPercentile : ℕ
   pub reference : List ℕ
   pub target : List ℕ
-  pub percentile : ℕ
   pub options : Options
   pub bytes : ℕ
   pub words : ℕ
@@ -33,14 +34,14 @@ pub record StepAsked : Type 0 where
 -- Its checks, and what it answers where they pass.
 abbrev pub checksOfStep : StepAsked → List Check
 checksOfStep a =
-    stepChecks (a .width) (a .height) (a .targetWidth) (a .targetHeight) (a .percentile) (a .options .bits)
+    stepChecks (a .width) (a .height) (a .percentile) (a .targetWidth) (a .targetHeight) (a .targetPercentile) (a .options .bits)
     (length (a .reference)) (length (a .target)) (a .bytes) (a .words)
 
 abbrev pub stepAsked : StepAsked → Stepped
 stepAsked a =
     stepped (a .options) (a .width) (a .height)
     (record { samples = a .reference; percentile = a .percentile })
-    (record { samples = a .target; percentile = a .percentile })
+    (record { samples = a .target; percentile = a .targetPercentile })
 
 -- What the scratch holds, before a call or after it.
 pub record StepLent : Type 0 where
@@ -57,20 +58,20 @@ pub record StepPromise {X : Type 0} (said : Answer Stepped → X) (a : StepAsked
 pub record StackAsked : Type 0 where
   pub widths : List ℕ
   pub heights : List ℕ
+  pub percentiles : List ℕ
   pub samples : List ℕ
   pub reference : ℕ
-  pub percentile : ℕ
   pub options : Options
   pub shifts : ℕ
   pub bytes : ℕ
   pub words : ℕ
 
 abbrev pub stackAsked : StackAsked → Stack
-stackAsked a = stackOf (a .widths) (a .heights) (a .samples) (a .reference) (a .percentile) (a .options)
+stackAsked a = stackOf (a .widths) (a .heights) (a .percentiles) (a .samples) (a .reference) (a .options)
 
 abbrev pub checksOfStack : StackAsked → List Check
 checksOfStack a =
-    stackChecks (a .widths) (a .heights) (a .percentile) (a .reference) (a .options .bits) (length (a .samples)) (a .shifts) (a .bytes) (a .words)
+    stackChecks (a .widths) (a .heights) (a .percentiles) (a .reference) (a .options .bits) (length (a .samples)) (a .shifts) (a .bytes) (a .words)
 
 -- What the lent lists hold, before a call or after it.
 pub record StackLent : Type 0 where
@@ -99,7 +100,7 @@ stackReported a = stackAsked (a .stack)
 -- Its checks up to the scratch, and all of them.
 abbrev pub firstChecks : ReportAsked → List Check
 firstChecks a =
-    surveyChecks (a .stack .widths) (a .stack .heights) (a .stack .percentile) (a .stack .reference) (a .stack .options .bits)
+    surveyChecks (a .stack .widths) (a .stack .heights) (a .stack .percentiles) (a .stack .reference) (a .stack .options .bits)
     (length (a .stack .samples)) (a .stack .shifts) (a .verdicts) (a .terms .reach) (a .stack .bytes) (a .stack .words)
 
 abbrev pub allChecks : ReportAsked → List Check

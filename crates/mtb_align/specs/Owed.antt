@@ -38,9 +38,12 @@ pub record ScratchFree (a : ReportAsked) (old new : ReportLent) : Type 0 where
 
 -- An accepted report.
 pub record Acceptance (a : ReportAsked) (s : Reported) (old new : ReportLent) : Type 0 where
-  -- every check passes, so that 01's limits hold: at most 16 frames of at most 8,192 by 8,192, a reference among them, a reach of at most 64
+  -- every check passes, so that 01's limits hold: at most 16 frames of at most 8,192 by 8,192, a reference among them, a percentile of at
+  -- most 100 for each, a reach of at most 64
   pub passes : (c : Check) → List·Memᴰ c (allChecks a) → c .fails ≡ false
   pub small : Small (stackReported a)
+  pub each : length (a .stack .percentiles) ≡ stackReported a .frames
+  pub cut : (k : ℕ) → stackReported a .percentile k ≤ 100
   pub near : a .terms .reach ≤ 64
   -- the answered number of records, read back from the space, are the report's; the bytes past them are as they were
   pub room : 20 * s .records ≤ a .records
@@ -80,10 +83,10 @@ Owed a (refused number values) old new = Refusal a number values old new
 module _ (a : ReportAsked) (old new : ReportLent) where
   -- the checks up to the scratch pass: 01's limits hold
   module _ (first : answer (firstChecks a) (tt {0}) ≡ accepted tt) where
-    in-order : SurveyInOrder (stackReported a) (length (a .stack .heights)) (a .stack .shifts) (a .verdicts) (a .terms .reach) (a .stack .bytes) (a .stack .words)
+    in-order : SurveyInOrder (stackReported a) (length (a .stack .heights)) (length (a .stack .percentiles)) (a .stack .shifts) (a .verdicts) (a .terms .reach) (a .stack .bytes) (a .stack .words)
     in-order =
         let s = a .stack in
-        survey-in-order (s .widths) (s .heights) (s .samples) (s .reference) (s .percentile) (s .options) _ _ _ _ _ (sym first)
+        survey-in-order (s .widths) (s .heights) (s .percentiles) (s .samples) (s .reference) (s .options) _ _ _ _ _ (sym first)
 
     within : Small (stackReported a)
     within = in-order .stack .small
@@ -115,6 +118,8 @@ module _ (a : ReportAsked) (old new : ReportLent) where
       record {
         passes = all-pass (promised a) (allChecks a) all;
         small = small;
+        each = in-order (fit .0) .stack .each;
+        cut = in-order (fit .0) .stack .cut;
         near = near;
         room = omega (arith, fit .1, count);
         read = read;

@@ -10,29 +10,31 @@ use Rattle.laws.specs.search.StepBounds.{Small}
 use Rattle.mtb_align.specs.declared.walk.Frames.{Frames}
 use Rattle.mtb_align.specs.Search.{optionsIn, fourOf}
 
--- The frames with their samples.
-abbrev pub stackIn : Frames → List ℕ → Stack
-stackIn f samples = record {
+-- The frames with their percentiles and samples.
+abbrev pub stackIn : Frames → List ℕ → List ℕ → Stack
+stackIn f percentiles samples = record {
   width = f .width;
   height = f .height;
   frames = f .count;
   samples = samples;
   reference = f .reference;
-  percentile = λ (k : ℕ). f .options .percentile;
+  percentile = λ (k : ℕ). getD percentiles k 0;
   options = optionsIn (f .options);
 }
 
--- The survey of the frames has what it needs: a stack and a percentile within 01's limits, all samples, and room for four bitmaps.
-pub record Framed (f : Frames) (samples : List ℕ) (words : ℕ) : Type 0 where
-  pub small : Small (stackIn f samples)
-  pub cut : f .options .percentile ≤ 100
+-- The survey of the frames has what it needs: a stack within 01's limits, a percentile within them for each frame, all samples, and
+-- room for four bitmaps.
+pub record Framed (f : Frames) (percentiles samples : List ℕ) (words : ℕ) : Type 0 where
+  pub small : Small (stackIn f percentiles samples)
+  pub each : f .count ≤ length percentiles
+  pub cut : (k : ℕ) → getD percentiles k 0 ≤ 100
   pub all : f .count * (f .width * f .height) ≤ length samples
-  pub maps : stackWords (stackIn f samples) ≤ words
+  pub maps : stackWords (stackIn f percentiles samples) ≤ words
 
 -- So has the walk: besides, room for two pyramids.
-pub record Ready (f : Frames) (samples : List ℕ) (bytes words : ℕ) : Type 0 where
-  pub framed : Framed f samples words
-  pub pixels : stackBytes (stackIn f samples) ≤ bytes
+pub record Ready (f : Frames) (percentiles samples : List ℕ) (bytes words : ℕ) : Type 0 where
+  pub framed : Framed f percentiles samples words
+  pub pixels : stackBytes (stackIn f percentiles samples) ≤ bytes
 
 -- The bitmaps of frames j and k.
 abbrev pub fourIn : Stack → ℕ → ℕ → List ℕ

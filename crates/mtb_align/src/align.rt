@@ -32,11 +32,10 @@ ghost use Rattle.mtb_align.specs.declared.shrink.Shrink.the-variants.{Av
 ghost use Rattle.mtb_align.specs.Levelled.{Levelled};
 ghost use Rattle.mtb_align.specs.Search.{TwoPairs, costIn, optionsIn, InHand, costsIn, steppedOf};
 
-// How the search is run.
+// How the search is run, for all frames alike.
 pub struct Options {
     pub bits: u32,
     pub tolerance: u8,
-    pub percentile: u8,
     pub shrink: Shrink,
 }
 
@@ -49,24 +48,22 @@ pub struct Step {
 impl Options {
     // Six bits are Ward's figure, for frames of three megapixels.
     pub fn default() -> Options
-        ensures { λ r. ⌜ (r .bits ≡ 6) × (r .tolerance ≡ 4) × (r .percentile ≡ 50) × (r .shrink ≡ Average) ⌝ }
+        ensures { λ r. ⌜ (r .bits ≡ 6) × (r .tolerance ≡ 4) × (r .shrink ≡ Average) ⌝ }
     {
         Options {
             bits: 6,
             tolerance: 4,
-            percentile: 50,
             shrink: Shrink::Average,
         }
     }
 
     // The conventions that OpenCV's `AlignMTB` uses, for comparing against it.
     pub fn opencv() -> Options
-        ensures { λ r. ⌜ (r .bits ≡ 6) × (r .tolerance ≡ 4) × (r .percentile ≡ 50) × (r .shrink ≡ Subsample) ⌝ }
+        ensures { λ r. ⌜ (r .bits ≡ 6) × (r .tolerance ≡ 4) × (r .shrink ≡ Subsample) ⌝ }
     {
         Options {
             bits: 6,
             tolerance: 4,
-            percentile: 50,
             shrink: Shrink::Subsample,
         }
     }
@@ -275,14 +272,16 @@ pub(crate) fn step_of(
     step_at(reference, target, frames, bytes, words, 0, last)
 }
 
-// How far the target has to move to sit on the reference. Refused: 1, 3, 4, 2, 7.
+// How far the target has to move to sit on the reference, each cut at its own percentile. Refused: 1, 3, 4, 2, 7.
 pub fn shift(
     reference: &[u8],
     width: usize,
     height: usize,
+    percentile: u8,
     target: &[u8],
     target_width: usize,
     target_height: usize,
+    target_percentile: u8,
     options: Options,
     bytes: &mut [u8],
     words: &mut [u64],
@@ -291,11 +290,12 @@ pub fn shift(
         (record {
           width = width;
           height = height;
+          percentile = percentile;
           targetWidth = «target_width»;
           targetHeight = «target_height»;
+          targetPercentile = «target_percentile»;
           reference = now (reference .entry);
           target = now (target .entry);
-          percentile = options .percentile;
           options = optionsIn options;
           bytes = length (now (bytes .entry));
           words = length (now (words .entry));
@@ -305,13 +305,13 @@ pub fn shift(
         (record { bytes = now (bytes .exit); words = now (words .exit) })
         ⌝ }
 {
-    let percentile = options.percentile;
     match step_fits(
         width,
         height,
+        percentile,
         target_width,
         target_height,
-        percentile,
+        target_percentile,
         options.bits,
         reference.len(),
         target.len(),
@@ -323,7 +323,7 @@ pub fn shift(
                 width,
                 height,
                 first: percentile,
-                second: percentile,
+                second: target_percentile,
                 options,
             };
             StepAnswer::Stepped(step_of(reference, target, frames, bytes, words))
@@ -334,11 +334,12 @@ pub fn shift(
 
 // ---- the stack
 
-// How far each frame has to move to sit on the reference, measured between neighbours and added up; x then y for each frame.
-// Refused: 6, 2, 1, 3, 5, 4, 2, 7.
+// How far each frame has to move to sit on the reference, measured between neighbours, each cut at its own percentile, and added up; x
+// then y for each frame. Refused: 6, 2, 1, 3, 5, 4, 2, 7.
 pub fn align_stack(
     widths: &[usize],
     heights: &[usize],
+    percentiles: &[u8],
     samples: &[u8],
     reference: usize,
     options: Options,
@@ -350,9 +351,9 @@ pub fn align_stack(
         (record {
           widths = now (widths .entry);
           heights = now (heights .entry);
+          percentiles = now (percentiles .entry);
           samples = now (samples .entry);
           reference = reference;
-          percentile = options .percentile;
           options = optionsIn options;
           shifts = length (now (shifts .entry));
           bytes = length (now (bytes .entry));
@@ -366,7 +367,7 @@ pub fn align_stack(
     match stack_fits(
         widths,
         heights,
-        options.percentile,
+        percentiles,
         reference,
         options.bits,
         samples.len(),
@@ -382,7 +383,7 @@ pub fn align_stack(
                 reference,
                 options,
             };
-            walk(samples, frames, shifts, bytes, words);
+            walk(percentiles, samples, frames, shifts, bytes, words);
             Outcome::Done
         }
         Outcome::Refused(error) => Outcome::Refused(error),

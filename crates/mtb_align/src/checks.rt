@@ -1,6 +1,7 @@
 // The checks of a pyramid, a step, a stack and a report, each in document 01's order, and the scratch that they ask for.
 use super::bitmap::words_per_row;
 use super::error::Error;
+use super::error::HIGHEST_PERCENTILE;
 use super::error::LONGEST_SIDE;
 use super::error::Outcome;
 use super::error::Size;
@@ -15,7 +16,7 @@ ghost use mathlib.Core.List.{[], _∷_, map};
 ghost use Prim.Native.Nat.{_≤_, _<_};
 ghost use lib.ListN.{length, getD};
 ghost use Rattle.definitions.specs.Align.{walk, stepBytes, stepWords, stepNeed};
-ghost use Rattle.definitions.specs.Refusals.{accepted, refused, answer, sideOver, unequal, pairDiffers, pyramidChecks, needChecks, stepChecks};
+ghost use Rattle.definitions.specs.Refusals.{accepted, refused, answer, sideOver, percentileOver, unequal, pairDiffers, pyramidChecks, needChecks, stepChecks};
 ghost use Rattle.definitions.specs.Refusals.{framesChecks, stackScratchChecks, stackChecks, surveyChecks};
 ghost use Rattle.mtb_align.specs.Answers.{outcome, needAnswer};
 
@@ -59,9 +60,10 @@ fn sizes_differ(width: usize, height: usize, other_width: usize, other_height: u
 pub(crate) fn step_fits(
     width: usize,
     height: usize,
+    percentile: u8,
     target_width: usize,
     target_height: usize,
-    percentile: u8,
+    target_percentile: u8,
     bits: u32,
     reference: usize,
     target: usize,
@@ -69,7 +71,8 @@ pub(crate) fn step_fits(
     words: usize,
 ) -> Outcome
     ensures { λ r. ⌜
-        outcome r ≡ answer (stepChecks width height «target_width» «target_height» percentile bits reference target bytes words) tt
+        outcome r ≡ answer
+        (stepChecks width height percentile «target_width» «target_height» «target_percentile» bits reference target bytes words) tt
         ⌝ }
 {
     if side_over(width, height) {
@@ -78,7 +81,10 @@ pub(crate) fn step_fits(
     if side_over(target_width, target_height) {
         return Outcome::Refused(Error::Side);
     }
-    if percentile > 100 {
+    if percentile > HIGHEST_PERCENTILE {
+        return Outcome::Refused(Error::Percentile);
+    }
+    if target_percentile > HIGHEST_PERCENTILE {
         return Outcome::Refused(Error::Percentile);
     }
     if sizes_differ(width, height, target_width, target_height) {
@@ -183,6 +189,20 @@ fn any_over(sides: &[usize]) -> bool
     false
 }
 
+// A percentile of the list is over 100.
+fn any_percentile_over(percentiles: &[u8]) -> bool
+    ensures { λ r. ⌜ answer (map percentileOver (now (percentiles .entry))) (tt {0}) ≡ cond {0} r (refused 3 []) (accepted tt) ⌝ }
+{
+    let mut k: usize = 0;
+    while k < percentiles.len() {
+        if percentiles[k] > HIGHEST_PERCENTILE {
+            return true;
+        }
+        k += 1;
+    }
+    false
+}
+
 // The refusal of a frame that is not of its neighbour's size.
 fn mismatch(widths: &[usize], heights: &[usize], neighbour: usize, frame: usize) -> Outcome
     requires { ⌜ (neighbour < length (now widths)) × (frame < length (now widths)) × (length (now heights) ≡ length (now widths)) ⌝ }
@@ -223,9 +243,11 @@ fn pairs_fit(widths: &[usize], heights: &[usize], reference: usize) -> Outcome
     Outcome::Done
 }
 
-// Whether the frames of a stack are in order, by their sizes, the percentile and the reference.
-fn frames_fit(widths: &[usize], heights: &[usize], percentile: u8, reference: usize) -> Outcome
-    ensures { λ r. ⌜ outcome r ≡ answer (framesChecks (now (widths .entry)) (now (heights .entry)) percentile reference) tt ⌝ }
+// Whether the frames of a stack are in order, by their sizes, their percentiles and the reference.
+fn frames_fit(widths: &[usize], heights: &[usize], percentiles: &[u8], reference: usize) -> Outcome
+    ensures { λ r. ⌜
+        outcome r ≡ answer (framesChecks (now (widths .entry)) (now (heights .entry)) (now (percentiles .entry)) reference) tt
+        ⌝ }
 {
     if widths.len() > MOST_FRAMES {
         return Outcome::Refused(Error::Frames);
@@ -236,13 +258,16 @@ fn frames_fit(widths: &[usize], heights: &[usize], percentile: u8, reference: us
     if heights.len() != widths.len() {
         return Outcome::Refused(Error::Length);
     }
+    if percentiles.len() != widths.len() {
+        return Outcome::Refused(Error::Length);
+    }
     if any_over(widths) {
         return Outcome::Refused(Error::Side);
     }
     if any_over(heights) {
         return Outcome::Refused(Error::Side);
     }
-    if percentile > 100 {
+    if any_percentile_over(percentiles) {
         return Outcome::Refused(Error::Percentile);
     }
     if reference >= widths.len() {
@@ -255,7 +280,7 @@ fn frames_fit(widths: &[usize], heights: &[usize], percentile: u8, reference: us
 pub(crate) fn stack_fits(
     widths: &[usize],
     heights: &[usize],
-    percentile: u8,
+    percentiles: &[u8],
     reference: usize,
     bits: u32,
     samples: usize,
@@ -264,10 +289,11 @@ pub(crate) fn stack_fits(
     words: usize,
 ) -> Outcome
     ensures { λ r. ⌜
-        outcome r ≡ answer (stackChecks (now (widths .entry)) (now (heights .entry)) percentile reference bits samples shifts bytes words) tt
+        outcome r ≡ answer
+        (stackChecks (now (widths .entry)) (now (heights .entry)) (now (percentiles .entry)) reference bits samples shifts bytes words) tt
         ⌝ }
 {
-    match frames_fit(widths, heights, percentile, reference) {
+    match frames_fit(widths, heights, percentiles, reference) {
         Outcome::Done => {
             let n = widths.len();
             let width = widths[0];
@@ -288,7 +314,7 @@ pub(crate) fn stack_fits(
 pub(crate) fn report_fits(
     widths: &[usize],
     heights: &[usize],
-    percentile: u8,
+    percentiles: &[u8],
     reference: usize,
     bits: u32,
     samples: usize,
@@ -300,10 +326,11 @@ pub(crate) fn report_fits(
 ) -> Outcome
     ensures { λ r. ⌜
         outcome r ≡ answer
-        (surveyChecks (now (widths .entry)) (now (heights .entry)) percentile reference bits samples shifts verdicts reach bytes words) tt
+        (surveyChecks (now (widths .entry)) (now (heights .entry)) (now (percentiles .entry)) reference bits samples shifts verdicts reach
+        bytes words) tt
         ⌝ }
 {
-    match frames_fit(widths, heights, percentile, reference) {
+    match frames_fit(widths, heights, percentiles, reference) {
         Outcome::Done => {
             let n = widths.len();
             let width = widths[0];

@@ -61,6 +61,9 @@ pub enum Outcome {
 // What no side of a frame exceeds.
 pub(crate) const LONGEST_SIDE: usize = 8192;
 
+// What no percentile exceeds.
+pub(crate) const HIGHEST_PERCENTILE: u8 = 100;
+
 // A side is over the limit.
 pub(crate) fn side_over(width: usize, height: usize) -> bool
     ensures { λ r. ⌜ r ≡ eitherOver width height ⌝ }

@@ -57,6 +57,7 @@ fn copy_shifts(from: &[i32], out: &mut [i32])
 
 // The verdicts and the records, as they were kept or, where there were too many records to keep, by a second survey.
 fn put_found(
+    percentiles: &[u8],
     samples: &[u8],
     frames: Frames,
     terms: Terms,
@@ -68,14 +69,14 @@ fn put_found(
     records: &mut [u8],
     words: &mut [u64],
 )
-    requires { ⌜ Framed frames (now samples) (length (now words)) × (terms .reach ≤ 64) ⌝ }
-    requires { ⌜ Placed (stackIn frames (now samples)) (now placed) × Found (stackIn frames (now samples)) (termsIn terms) (now judged) (now kept) needed ⌝ }
+    requires { ⌜ Framed frames (now percentiles) (now samples) (length (now words)) × (terms .reach ≤ 64) ⌝ }
+    requires { ⌜ Placed (stackIn frames (now percentiles) (now samples)) (now placed) × Found (stackIn frames (now percentiles) (now samples)) (termsIn terms) (now judged) (now kept) needed ⌝ }
     requires { ⌜ (length (now verdicts) ≡ frames .count) × (20 * needed ≤ length (now records)) ⌝ }
-    ensures { λ _. ⌜ now (verdicts .exit) ≡ reports.verdicts (stackIn frames (now (samples .entry))) (termsIn terms) ⌝ }
+    ensures { λ _. ⌜ now (verdicts .exit) ≡ reports.verdicts (stackIn frames (now (percentiles .entry)) (now (samples .entry))) (termsIn terms) ⌝ }
     ensures { λ _. ⌜
-        now (records .exit) ≡ sets (now (records .entry)) 0 (recordsBytes (reports.records (stackIn frames (now (samples .entry))) (termsIn terms)))
+        now (records .exit) ≡ sets (now (records .entry)) 0 (recordsBytes (reports.records (stackIn frames (now (percentiles .entry)) (now (samples .entry))) (termsIn terms)))
         ⌝ }
-    ensures { λ _. ⌜ FreeUpTo (stackWords (stackIn frames (now (samples .entry)))) (now (words .entry)) (now (words .exit)) ⌝ }
+    ensures { λ _. ⌜ FreeUpTo (stackWords (stackIn frames (now (percentiles .entry)) (now (samples .entry)))) (now (words .entry)) (now (words .exit)) ⌝ }
 {
     let bytes = RECORD_BYTES * needed;
     if bytes <= kept.len() {
@@ -83,11 +84,21 @@ fn put_found(
         copy_run(kept, 0, records, 0, bytes);
         return;
     }
-    survey_frames(samples, frames, terms, placed, verdicts, records, words);
+    survey_frames(
+        percentiles,
+        samples,
+        frames,
+        terms,
+        placed,
+        verdicts,
+        records,
+        words,
+    );
 }
 
 // The shifts, the verdicts and the records go to the caller if the records fit, and nothing does if not.
 fn write_report(
+    percentiles: &[u8],
     samples: &[u8],
     frames: Frames,
     terms: Terms,
@@ -100,21 +111,22 @@ fn write_report(
     records: &mut [u8],
     words: &mut [u64],
 ) -> ReportAnswer
-    requires { ⌜ Framed frames (now samples) (length (now words)) × (terms .reach ≤ 64) ⌝ }
-    requires { ⌜ Placed (stackIn frames (now samples)) (now placed) × Found (stackIn frames (now samples)) (termsIn terms) (now judged) (now kept) needed ⌝ }
+    requires { ⌜ Framed frames (now percentiles) (now samples) (length (now words)) × (terms .reach ≤ 64) ⌝ }
+    requires { ⌜ Placed (stackIn frames (now percentiles) (now samples)) (now placed) × Found (stackIn frames (now percentiles) (now samples)) (termsIn terms) (now judged) (now kept) needed ⌝ }
     requires { ⌜ (length (now shifts) ≡ 2 * frames .count) × (length (now verdicts) ≡ frames .count) ⌝ }
     ensures written { λ r. ⌜
-        Written itself (reportChecks [] (recordsNeeded (stackIn frames (now (samples .entry))) (termsIn terms)) (length (now (records .entry))))
-        (stackIn frames (now (samples .entry))) (termsIn terms) (reportAnswer r)
+        Written itself (reportChecks [] (recordsNeeded (stackIn frames (now (percentiles .entry)) (now (samples .entry))) (termsIn terms)) (length (now (records .entry))))
+        (stackIn frames (now (percentiles .entry)) (now (samples .entry))) (termsIn terms) (reportAnswer r)
         (record { shifts = now (shifts .entry); verdicts = now (verdicts .entry); records = now (records .entry) })
         (record { shifts = now (shifts .exit); verdicts = now (verdicts .exit); records = now (records .exit) })
         ⌝ }
-    ensures words { λ _. ⌜ FreeUpTo (stackWords (stackIn frames (now (samples .entry)))) (now (words .entry)) (now (words .exit)) ⌝ }
+    ensures words { λ _. ⌜ FreeUpTo (stackWords (stackIn frames (now (percentiles .entry)) (now (samples .entry)))) (now (words .entry)) (now (words .exit)) ⌝ }
 {
     if records.len() < RECORD_BYTES * needed {
         return ReportAnswer::Refused(Error::Records(needed));
     }
     put_found(
+        percentiles,
         samples,
         frames,
         terms,
@@ -137,6 +149,7 @@ fn write_report(
 // The report of a stack that is in order: the walk, then the survey of each frame, and then all that is written. Counting comes
 // before writing, so that a refusal has nothing to undo.
 fn report_within(
+    percentiles: &[u8],
     samples: &[u8],
     frames: Frames,
     terms: Terms,
@@ -149,26 +162,36 @@ fn report_within(
     bytes: &mut [u8],
     words: &mut [u64],
 ) -> ReportAnswer
-    requires { ⌜ Ready frames (now samples) (length (now bytes)) (length (now words)) × (terms .reach ≤ 64) ⌝ }
+    requires { ⌜ Ready frames (now percentiles) (now samples) (length (now bytes)) (length (now words)) × (terms .reach ≤ 64) ⌝ }
     requires { ⌜ (2 * frames .count ≤ length (now placed)) × (frames .count ≤ length (now judged)) ⌝ }
     requires { ⌜ (length (now shifts) ≡ 2 * frames .count) × (length (now verdicts) ≡ frames .count) ⌝ }
     ensures written { λ r. ⌜
-        Written itself (reportChecks [] (recordsNeeded (stackIn frames (now (samples .entry))) (termsIn terms)) (length (now (records .entry))))
-        (stackIn frames (now (samples .entry))) (termsIn terms) (reportAnswer r)
+        Written itself (reportChecks [] (recordsNeeded (stackIn frames (now (percentiles .entry)) (now (samples .entry))) (termsIn terms)) (length (now (records .entry))))
+        (stackIn frames (now (percentiles .entry)) (now (samples .entry))) (termsIn terms) (reportAnswer r)
         (record { shifts = now (shifts .entry); verdicts = now (verdicts .entry); records = now (records .entry) })
         (record { shifts = now (shifts .exit); verdicts = now (verdicts .exit); records = now (records .exit) })
         ⌝ }
-    ensures bytes { λ _. ⌜ FreeUpTo (stackBytes (stackIn frames (now (samples .entry)))) (now (bytes .entry)) (now (bytes .exit)) ⌝ }
-    ensures words { λ _. ⌜ FreeUpTo (stackWords (stackIn frames (now (samples .entry)))) (now (words .entry)) (now (words .exit)) ⌝ }
-    ensures placed { λ _. ⌜ now (placed .exit) ≡ sets (now (placed .entry)) 0 (listed (stackShifts (stackIn frames (now (samples .entry))))) ⌝ }
-    ensures judged { λ _. ⌜ now (judged .exit) ≡ sets (now (judged .entry)) 0 (reports.verdicts (stackIn frames (now (samples .entry))) (termsIn terms)) ⌝ }
+    ensures bytes { λ _. ⌜ FreeUpTo (stackBytes (stackIn frames (now (percentiles .entry)) (now (samples .entry)))) (now (bytes .entry)) (now (bytes .exit)) ⌝ }
+    ensures words { λ _. ⌜ FreeUpTo (stackWords (stackIn frames (now (percentiles .entry)) (now (samples .entry)))) (now (words .entry)) (now (words .exit)) ⌝ }
+    ensures placed { λ _. ⌜ now (placed .exit) ≡ sets (now (placed .entry)) 0 (listed (stackShifts (stackIn frames (now (percentiles .entry)) (now (samples .entry))))) ⌝ }
+    ensures judged { λ _. ⌜ now (judged .exit) ≡ sets (now (judged .entry)) 0 (reports.verdicts (stackIn frames (now (percentiles .entry)) (now (samples .entry))) (termsIn terms)) ⌝ }
     ensures kept { λ _. ⌜
-        now (kept .exit) ≡ keptIn (now (kept .entry)) 0 (recordsBytes (reports.records (stackIn frames (now (samples .entry))) (termsIn terms)))
+        now (kept .exit) ≡ keptIn (now (kept .entry)) 0 (recordsBytes (reports.records (stackIn frames (now (percentiles .entry)) (now (samples .entry))) (termsIn terms)))
         ⌝ }
 {
-    walk(samples, frames, placed, bytes, words);
-    let needed = survey_frames(samples, frames, terms, placed, judged, kept, words);
+    walk(percentiles, samples, frames, placed, bytes, words);
+    let needed = survey_frames(
+        percentiles,
+        samples,
+        frames,
+        terms,
+        placed,
+        judged,
+        kept,
+        words,
+    );
     write_report(
+        percentiles,
         samples,
         frames,
         terms,
@@ -189,6 +212,7 @@ fn report_within(
 pub fn report(
     widths: &[usize],
     heights: &[usize],
+    percentiles: &[u8],
     samples: &[u8],
     reference: usize,
     options: Options,
@@ -204,9 +228,9 @@ pub fn report(
           stack = record {
             widths = now (widths .entry);
             heights = now (heights .entry);
+            percentiles = now (percentiles .entry);
             samples = now (samples .entry);
             reference = reference;
-            percentile = options .percentile;
             options = optionsIn options;
             shifts = length (now (shifts .entry));
             bytes = length (now (bytes .entry));
@@ -232,7 +256,7 @@ pub fn report(
     match report_fits(
         widths,
         heights,
-        options.percentile,
+        percentiles,
         reference,
         options.bits,
         samples.len(),
@@ -255,6 +279,7 @@ pub fn report(
             let mut judged = [0u8; 16];
             let mut kept = [0u8; 65520];
             report_within(
+                percentiles,
                 samples,
                 frames,
                 terms,

@@ -51,12 +51,19 @@ fn step_by_shifts(shifts: &[i32], neighbour: usize, k: usize) -> Shift
     }
 }
 
-// The bitmaps of two frames at full size.
-fn pack_frames(samples: &[u8], frames: Frames, first: usize, second: usize, words: &mut [u64])
+// The bitmaps of two frames at full size, each cut at its own percentile.
+fn pack_frames(
+    percentiles: &[u8],
+    samples: &[u8],
+    frames: Frames,
+    first: usize,
+    second: usize,
+    words: &mut [u64],
+)
     requires { ⌜
-        Framed frames (now samples) (length (now words)) × (1 < frames .count) × (first < frames .count) × (second < frames .count)
+        Framed frames (now percentiles) (now samples) (length (now words)) × (1 < frames .count) × (first < frames .count) × (second < frames .count)
         ⌝ }
-    ensures { λ _. ⌜ now (words .exit) ≡ sets (now (words .entry)) 0 (fourIn (stackIn frames (now (samples .entry))) first second) ⌝ }
+    ensures { λ _. ⌜ now (words .exit) ≡ sets (now (words .entry)) 0 (fourIn (stackIn frames (now (percentiles .entry)) (now (samples .entry))) first second) ⌝ }
 {
     let width = frames.width;
     let height = frames.height;
@@ -69,8 +76,8 @@ fn pack_frames(samples: &[u8], frames: Frames, first: usize, second: usize, word
     let two = TwoFrames {
         width,
         height,
-        first: options.percentile,
-        second: options.percentile,
+        first: percentiles[first],
+        second: percentiles[second],
         options,
     };
     pack_both(
@@ -82,16 +89,23 @@ fn pack_frames(samples: &[u8], frames: Frames, first: usize, second: usize, word
 }
 
 // The step of frame k against its neighbour, and the bitmaps of both; not for the reference.
-fn sight(samples: &[u8], frames: Frames, k: usize, shifts: &[i32], words: &mut [u64]) -> Shift
-    requires { ⌜ Framed frames (now samples) (length (now words)) × (k < frames .count) × (k ≡ frames .reference → ⊥) ⌝ }
-    requires { ⌜ Placed (stackIn frames (now samples)) (now shifts) ⌝ }
-    ensures { λ r. ⌜ shiftIn r ≡ stepOf (stackIn frames (now (samples .entry))) k ⌝ }
+fn sight(
+    percentiles: &[u8],
+    samples: &[u8],
+    frames: Frames,
+    k: usize,
+    shifts: &[i32],
+    words: &mut [u64],
+) -> Shift
+    requires { ⌜ Framed frames (now percentiles) (now samples) (length (now words)) × (k < frames .count) × (k ≡ frames .reference → ⊥) ⌝ }
+    requires { ⌜ Placed (stackIn frames (now percentiles) (now samples)) (now shifts) ⌝ }
+    ensures { λ r. ⌜ shiftIn r ≡ stepOf (stackIn frames (now (percentiles .entry)) (now (samples .entry))) k ⌝ }
     ensures { λ _. ⌜
-        now (words .exit) ≡ sets (now (words .entry)) 0 (fourIn (stackIn frames (now (samples .entry))) (neighbour (frames .reference) k) k)
+        now (words .exit) ≡ sets (now (words .entry)) 0 (fourIn (stackIn frames (now (percentiles .entry)) (now (samples .entry))) (neighbour (frames .reference) k) k)
         ⌝ }
 {
     let neighbour = neighbour_of(frames.reference, k);
-    pack_frames(samples, frames, neighbour, k, words);
+    pack_frames(percentiles, samples, frames, neighbour, k, words);
     step_by_shifts(shifts, neighbour, k)
 }
 
@@ -150,6 +164,7 @@ fn verdict_of(compared: u64, rivals: usize, floor: u64) -> u8
 
 // The survey of frame k; the verdict goes into `judged`.
 fn survey_frame(
+    percentiles: &[u8],
     samples: &[u8],
     frames: Frames,
     k: usize,
@@ -160,11 +175,11 @@ fn survey_frame(
     number: usize,
     words: &mut [u64],
 ) -> usize
-    requires { ⌜ Framed frames (now samples) (length (now words)) × (k < frames .count) × (terms .reach ≤ 64) × (number ≤ 300000) ⌝ }
-    requires { ⌜ Placed (stackIn frames (now samples)) (now shifts) × (frames .count ≤ length (now judged)) ⌝ }
-    ensures { λ r. ⌜ Kept (now (space .entry)) number (frameRecords (stackIn frames (now (samples .entry))) (termsIn terms) k) (now (space .exit)) r ⌝ }
-    ensures { λ _. ⌜ now (judged .exit) ≡ sets (now (judged .entry)) k (verdict (stackIn frames (now (samples .entry))) (termsIn terms) k ∷ []) ⌝ }
-    ensures { λ _. ⌜ FreeUpTo (stackWords (stackIn frames (now (samples .entry)))) (now (words .entry)) (now (words .exit)) ⌝ }
+    requires { ⌜ Framed frames (now percentiles) (now samples) (length (now words)) × (k < frames .count) × (terms .reach ≤ 64) × (number ≤ 300000) ⌝ }
+    requires { ⌜ Placed (stackIn frames (now percentiles) (now samples)) (now shifts) × (frames .count ≤ length (now judged)) ⌝ }
+    ensures { λ r. ⌜ Kept (now (space .entry)) number (frameRecords (stackIn frames (now (percentiles .entry)) (now (samples .entry))) (termsIn terms) k) (now (space .exit)) r ⌝ }
+    ensures { λ _. ⌜ now (judged .exit) ≡ sets (now (judged .entry)) k (verdict (stackIn frames (now (percentiles .entry)) (now (samples .entry))) (termsIn terms) k ∷ []) ⌝ }
+    ensures { λ _. ⌜ FreeUpTo (stackWords (stackIn frames (now (percentiles .entry)) (now (samples .entry)))) (now (words .entry)) (now (words .exit)) ⌝ }
 {
     if k == frames.reference {
         judged[k] = REFERENCE;
@@ -172,7 +187,7 @@ fn survey_frame(
     }
     let width = frames.width;
     let height = frames.height;
-    let step = sight(samples, frames, k, shifts, words);
+    let step = sight(percentiles, samples, frames, k, shifts, words);
     let end = 4 * (height * words_per_row(width));
     let surveyed = survey_around(&words[0..end], width, height, step, terms, k, space, number);
     let after = surveyed.number;
@@ -182,6 +197,7 @@ fn survey_frame(
 
 // The survey of all frames, from the start of the space on.
 pub(crate) fn survey_frames(
+    percentiles: &[u8],
     samples: &[u8],
     frames: Frames,
     terms: Terms,
@@ -190,16 +206,17 @@ pub(crate) fn survey_frames(
     space: &mut [u8],
     words: &mut [u64],
 ) -> usize
-    requires { ⌜ Framed frames (now samples) (length (now words)) × (terms .reach ≤ 64) ⌝ }
-    requires { ⌜ Placed (stackIn frames (now samples)) (now shifts) × (frames .count ≤ length (now judged)) ⌝ }
-    ensures { λ r. ⌜ Kept (now (space .entry)) 0 (records (stackIn frames (now (samples .entry))) (termsIn terms)) (now (space .exit)) r ⌝ }
-    ensures { λ _. ⌜ now (judged .exit) ≡ sets (now (judged .entry)) 0 (verdicts (stackIn frames (now (samples .entry))) (termsIn terms)) ⌝ }
-    ensures { λ _. ⌜ FreeUpTo (stackWords (stackIn frames (now (samples .entry)))) (now (words .entry)) (now (words .exit)) ⌝ }
+    requires { ⌜ Framed frames (now percentiles) (now samples) (length (now words)) × (terms .reach ≤ 64) ⌝ }
+    requires { ⌜ Placed (stackIn frames (now percentiles) (now samples)) (now shifts) × (frames .count ≤ length (now judged)) ⌝ }
+    ensures { λ r. ⌜ Kept (now (space .entry)) 0 (records (stackIn frames (now (percentiles .entry)) (now (samples .entry))) (termsIn terms)) (now (space .exit)) r ⌝ }
+    ensures { λ _. ⌜ now (judged .exit) ≡ sets (now (judged .entry)) 0 (verdicts (stackIn frames (now (percentiles .entry)) (now (samples .entry))) (termsIn terms)) ⌝ }
+    ensures { λ _. ⌜ FreeUpTo (stackWords (stackIn frames (now (percentiles .entry)) (now (samples .entry)))) (now (words .entry)) (now (words .exit)) ⌝ }
 {
     let mut number: usize = 0;
     let mut k: usize = 0;
     while k < frames.count {
         number = survey_frame(
+            percentiles,
             samples,
             frames,
             k,

@@ -1,6 +1,7 @@
 // The cut of a frame, and its two bitmaps.
 use super::bitmap::words_per_row;
 use super::error::Error;
+use super::error::HIGHEST_PERCENTILE;
 use super::error::Outcome;
 use super::error::side_over;
 use super::strips::pack;
@@ -217,7 +218,7 @@ pub fn threshold(samples: &[u8], width: usize, height: usize, percentile: u8) ->
     if samples.len() != width * height {
         return CutAnswer::Refused(Error::Length);
     }
-    if percentile > 100 {
+    if percentile > HIGHEST_PERCENTILE {
         return CutAnswer::Refused(Error::Percentile);
     }
     CutAnswer::Cut(cut_of(samples, width, height, percentile))
@@ -261,7 +262,7 @@ pub fn compute_bitmaps(
     if exclusion.len() != words {
         return Outcome::Refused(Error::Length);
     }
-    if percentile > 100 {
+    if percentile > HIGHEST_PERCENTILE {
         return Outcome::Refused(Error::Percentile);
     }
     pack(

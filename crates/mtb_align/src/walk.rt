@@ -71,8 +71,9 @@ fn put_shift(shifts: &mut [i32], k: usize, s: Shift)
     shifts[2 * k + 1] = y;
 }
 
-// The step of frame k against another, which is its neighbour.
+// The step of frame k against another, which is its neighbour, each cut at its own percentile.
 fn frame_step(
+    percentiles: &[u8],
     samples: &[u8],
     frames: Frames,
     neighbour: usize,
@@ -81,12 +82,12 @@ fn frame_step(
     words: &mut [u64],
 ) -> Shift
     requires { ⌜
-        Ready frames (now samples) (length (now bytes)) (length (now words)) × (1 < frames .count)
+        Ready frames (now percentiles) (now samples) (length (now bytes)) (length (now words)) × (1 < frames .count)
         × (k < frames .count) × (neighbour ≡ definition.neighbour (frames .reference) k)
         ⌝ }
-    ensures { λ r. ⌜ shiftIn r ≡ stepOf (stackIn frames (now (samples .entry))) k ⌝ }
-    ensures { λ _. ⌜ FreeUpTo (stackBytes (stackIn frames (now (samples .entry)))) (now (bytes .entry)) (now (bytes .exit)) ⌝ }
-    ensures { λ _. ⌜ FreeUpTo (stackWords (stackIn frames (now (samples .entry)))) (now (words .entry)) (now (words .exit)) ⌝ }
+    ensures { λ r. ⌜ shiftIn r ≡ stepOf (stackIn frames (now (percentiles .entry)) (now (samples .entry))) k ⌝ }
+    ensures { λ _. ⌜ FreeUpTo (stackBytes (stackIn frames (now (percentiles .entry)) (now (samples .entry)))) (now (bytes .entry)) (now (bytes .exit)) ⌝ }
+    ensures { λ _. ⌜ FreeUpTo (stackWords (stackIn frames (now (percentiles .entry)) (now (samples .entry)))) (now (words .entry)) (now (words .exit)) ⌝ }
 {
     let width = frames.width;
     let height = frames.height;
@@ -99,8 +100,8 @@ fn frame_step(
     let two = TwoFrames {
         width,
         height,
-        first: options.percentile,
-        second: options.percentile,
+        first: percentiles[neighbour],
+        second: percentiles[k],
         options,
     };
     let step = step_of(
@@ -115,16 +116,17 @@ fn frame_step(
 
 // The shifts of all frames: the reference's, and in the order of the walk each frame's, its neighbour's and its step added.
 pub(crate) fn walk(
+    percentiles: &[u8],
     samples: &[u8],
     frames: Frames,
     shifts: &mut [i32],
     bytes: &mut [u8],
     words: &mut [u64],
 )
-    requires { ⌜ Ready frames (now samples) (length (now bytes)) (length (now words)) × (2 * frames .count ≤ length (now shifts)) ⌝ }
-    ensures { λ _. ⌜ now (shifts .exit) ≡ sets (now (shifts .entry)) 0 (listed (shiftsOf (stackIn frames (now (samples .entry))))) ⌝ }
-    ensures { λ _. ⌜ FreeUpTo (stackBytes (stackIn frames (now (samples .entry)))) (now (bytes .entry)) (now (bytes .exit)) ⌝ }
-    ensures { λ _. ⌜ FreeUpTo (stackWords (stackIn frames (now (samples .entry)))) (now (words .entry)) (now (words .exit)) ⌝ }
+    requires { ⌜ Ready frames (now percentiles) (now samples) (length (now bytes)) (length (now words)) × (2 * frames .count ≤ length (now shifts)) ⌝ }
+    ensures { λ _. ⌜ now (shifts .exit) ≡ sets (now (shifts .entry)) 0 (listed (shiftsOf (stackIn frames (now (percentiles .entry)) (now (samples .entry))))) ⌝ }
+    ensures { λ _. ⌜ FreeUpTo (stackBytes (stackIn frames (now (percentiles .entry)) (now (samples .entry)))) (now (bytes .entry)) (now (bytes .exit)) ⌝ }
+    ensures { λ _. ⌜ FreeUpTo (stackWords (stackIn frames (now (percentiles .entry)) (now (samples .entry)))) (now (words .entry)) (now (words .exit)) ⌝ }
 {
     let reference = frames.reference;
     let n = frames.count;
@@ -132,7 +134,7 @@ pub(crate) fn walk(
     for i in 0..n - 1 {
         let k = walked(reference, n, i);
         let neighbour = neighbour_of(reference, k);
-        let step = frame_step(samples, frames, neighbour, k, bytes, words);
+        let step = frame_step(percentiles, samples, frames, neighbour, k, bytes, words);
         let placed = shift_at(shifts, neighbour);
         put_shift(shifts, k, summed(placed, step));
     }

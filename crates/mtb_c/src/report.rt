@@ -17,11 +17,11 @@ ghost use Rattle.mtb_c.specs.Status.{statusOf, valuesAfter, optionsOf, t
 pub extern "C" fn mtb_report(
     widths: &[usize],
     heights: &[usize],
+    percentiles: &[u8],
     samples: &[u8],
     reference: usize,
     bits: u32,
     tolerance: u8,
-    percentile: u8,
     subsampled: bool,
     reach: u32,
     floor: u32,
@@ -43,9 +43,9 @@ pub extern "C" fn mtb_report(
           stack = record {
             widths = now (widths .entry);
             heights = now (heights .entry);
+            percentiles = now (percentiles .entry);
             samples = now (samples .entry);
             reference = reference;
-            percentile = percentile;
             options = optionsOf bits tolerance subsampled;
             shifts = length (now (shifts .entry));
             bytes = length (now (bytes .entry));
@@ -78,7 +78,6 @@ pub extern "C" fn mtb_report(
     let options = Options {
         bits,
         tolerance,
-        percentile,
         shrink: mode(subsampled),
     };
     let terms = Terms {
@@ -89,6 +88,7 @@ pub extern "C" fn mtb_report(
     match mtb_align::report::report(
         widths,
         heights,
+        percentiles,
         samples,
         reference,
         options,

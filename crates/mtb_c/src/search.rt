@@ -16,12 +16,13 @@ pub extern "C" fn mtb_shift(
     reference: &[u8],
     width: usize,
     height: usize,
+    percentile: u8,
     target: &[u8],
     target_width: usize,
     target_height: usize,
+    target_percentile: u8,
     bits: u32,
     tolerance: u8,
-    percentile: u8,
     subsampled: bool,
     bytes: &mut [u8],
     words: &mut [u64],
@@ -34,11 +35,12 @@ pub extern "C" fn mtb_shift(
         (let a : StepAsked = record {
           width = width;
           height = height;
+          percentile = percentile;
           targetWidth = «target_width»;
           targetHeight = «target_height»;
+          targetPercentile = «target_percentile»;
           reference = now (reference .entry);
           target = now (target .entry);
-          percentile = percentile;
           options = optionsOf bits tolerance subsampled;
           bytes = length (now (bytes .entry));
           words = length (now (words .entry));
@@ -55,16 +57,17 @@ pub extern "C" fn mtb_shift(
     let options = Options {
         bits,
         tolerance,
-        percentile,
         shrink: mode(subsampled),
     };
     match mtb_align::align::shift(
         reference,
         width,
         height,
+        percentile,
         target,
         target_width,
         target_height,
+        target_percentile,
         options,
         bytes,
         words,
@@ -88,11 +91,11 @@ pub extern "C" fn mtb_shift(
 pub extern "C" fn mtb_align_stack(
     widths: &[usize],
     heights: &[usize],
+    percentiles: &[u8],
     samples: &[u8],
     reference: usize,
     bits: u32,
     tolerance: u8,
-    percentile: u8,
     subsampled: bool,
     shifts: &mut [i32],
     bytes: &mut [u8],
@@ -103,9 +106,9 @@ pub extern "C" fn mtb_align_stack(
         (let a : StackAsked = record {
           widths = now (widths .entry);
           heights = now (heights .entry);
+          percentiles = now (percentiles .entry);
           samples = now (samples .entry);
           reference = reference;
-          percentile = percentile;
           options = optionsOf bits tolerance subsampled;
           shifts = length (now (shifts .entry));
           bytes = length (now (bytes .entry));
@@ -120,13 +123,13 @@ pub extern "C" fn mtb_align_stack(
     let options = Options {
         bits,
         tolerance,
-        percentile,
         shrink: mode(subsampled),
     };
     status_with(
         mtb_align::align::align_stack(
             widths,
             heights,
+            percentiles,
             samples,
             reference,
             options,

@@ -143,11 +143,12 @@ module _ (a b : List ℕ) (l : List Frame) where
       samples = samples-frames whole (imagesOf (length a) l) ∙ ap samplesIn frames
 
   -- with frames of one size, the aligner's frame k of the stack is the k-th that was written
-  pub frame-back : AllWithin l → (w h : ℕ) → ((f : Frame) → List·Memᴰ f l → (f .width ≡ w) × (f .height ≡ h)) → (reference percentile : ℕ) (options : Options) (k : ℕ) → k < length l
+  pub frame-back : AllWithin l → (w h : ℕ) → ((f : Frame) → List·Memᴰ f l → (f .width ≡ w) × (f .height ≡ h)) → (percentiles : List ℕ) (reference : ℕ) (options : Options) (k : ℕ)
+      → k < length l
       → let images = imagesFrom whole (length a) (length l) in
-      exposure (stackOf (widthsOf images) (heightsOf images) (joinedSamples whole images) reference percentile options) k .samples ≡ getD (map (λ (f : Frame). f .samples) l) k []
+      exposure (stackOf (widthsOf images) (heightsOf images) percentiles (joinedSamples whole images) reference options) k .samples ≡ getD (map (λ (f : Frame). f .samples) l) k []
   unfolding exposure stackOf
-  frame-back within w h same reference percentile options k c =
+  frame-back within w h same percentiles reference options k c =
       let back = bracket-back within in
       ap₂ (λ (u v : List ℕ). take (getD u 0 0 * getD v 0 0) (drop (k * (getD u 0 0 * getD v 0 0)) (joinedSamples whole (imagesFrom whole (length a) (length l))))) (back .widths) (back .heights)
       ∙ ap₂ (λ (n : ℕ) (s : List ℕ). take n (drop (k * n) s)) (area l same c) (back .samples)

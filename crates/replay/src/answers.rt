@@ -42,14 +42,12 @@ pub fn byte(n: usize) -> u8
 pub fn options(numbers: &[u64]) -> Options
     ensures { λ r. ⌜ r .bits ≡ getD (now (numbers .entry)) 0 0 % 4294967296 ⌝ }
     ensures { λ r. ⌜ r .tolerance ≡ getD (now (numbers .entry)) 1 0 % 256 ⌝ }
-    ensures { λ r. ⌜ r .percentile ≡ getD (now (numbers .entry)) 2 0 % 256 ⌝ }
-    ensures { λ r. ⌜ r .shrink ≡ modeAt (getD (now (numbers .entry)) 3 0) ⌝ }
+    ensures { λ r. ⌜ r .shrink ≡ modeAt (getD (now (numbers .entry)) 2 0) ⌝ }
 {
     Options {
         bits: bits32(at(numbers, 0)),
         tolerance: byte(at(numbers, 1)),
-        percentile: byte(at(numbers, 2)),
-        shrink: mode(at(numbers, 3)),
+        shrink: mode(at(numbers, 2)),
     }
 }
 

@@ -36,7 +36,7 @@ use Rattle.steps.proofs.Decoded.{records-of}
 
 -- The checks of n frames, with the scratch that the program lends.
 abbrev checksFrom : ℕ → List Check
-checksFrom n = surveyChecks (replicate n 64) (replicate n 64) 50 0 6 (n * 4096) (2 * n) n 1 2728 256
+checksFrom n = surveyChecks (replicate n 64) (replicate n 64) (replicate n 50) 0 6 (n * 4096) (2 * n) n 1 2728 256
 
 all-in-order : build 8 (λ (i : ℕ). answer (checksFrom (suc i)) (tt {0})) ≡ replicate 8 (accepted tt)
 unfolding answer surveyChecks framesChecks framesOver wrongLength sideOver percentileOver noReference pairDiffers neighbour walk build reachOver stackScratchChecks scratchShort stepBytes
@@ -58,7 +58,7 @@ no-reference = refl
 
 -- The stack of n frames of an input.
 abbrev pub stackFrom : ℕ → List ℕ → Stack
-stackFrom n input = stackOf (replicate n 64) (replicate n 64) input 0 50 inputOptions
+stackFrom n input = stackOf (replicate n 64) (replicate n 64) (replicate n 50) input 0 inputOptions
 
 -- one to eight frames of 64 by 64, the first of them the reference
 pub record Few (a : Stack) : Type 0 where
@@ -168,32 +168,32 @@ module _ (input : List ℕ) (n : ℕ) (whole : length input ≡ n * 4096) (most 
 -- ---- a call of the report on n frames of an input
 
 -- what it is given
-pub record Call (n : ℕ) (input widths heights : List ℕ) (percentile bits shiftList verdictList reach : ℕ) (o : Options) (q : Terms) : Type 0 where
+pub record Call (n : ℕ) (input widths heights percentiles : List ℕ) (bits shiftList verdictList reach : ℕ) (o : Options) (q : Terms) : Type 0 where
   pub most : n ≤ 8
   pub wide : widths ≡ replicate n 64
   pub high : heights ≡ replicate n 64
   pub whole : length input ≡ n * 4096
   pub list : shiftList ≡ 2 * n
   pub judged : verdictList ≡ n
-  pub cut : percentile ≡ 50
+  pub cut : percentiles ≡ replicate n 50
   pub deep : bits ≡ 6
   pub near : reach ≡ 1
   pub options : o ≡ inputOptions
   pub terms : q ≡ inputTerms
 
-module _ {n : ℕ} {input widths heights : List ℕ} {percentile bits shiftList verdictList reach : ℕ} {o : Options} {q : Terms}
-    (call : Call n input widths heights percentile bits shiftList verdictList reach o q) where
+module _ {n : ℕ} {input widths heights percentiles : List ℕ} {bits shiftList verdictList reach : ℕ} {o : Options} {q : Terms}
+    (call : Call n input widths heights percentiles bits shiftList verdictList reach o q) where
   abbrev stack : Stack
-  stack = stackOf widths heights input 0 percentile o
+  stack = stackOf widths heights percentiles input 0 o
 
   abbrev before : List Check
-  before = surveyChecks widths heights percentile 0 bits (length input) shiftList verdictList reach 2728 256
+  before = surveyChecks widths heights percentiles 0 bits (length input) shiftList verdictList reach 2728 256
 
   abbrev checks : List Check
   checks = reportChecks before (recordsNeeded stack q) 140
 
   same-stack : stack ≡ stackFrom n input
-  same-stack i = stackOf (call .wide i) (call .high i) input 0 (call .cut i) (call .options i)
+  same-stack i = stackOf (call .wide i) (call .high i) (call .cut i) input 0 (call .options i)
 
   same-checks : before ≡ checksFrom n
   same-checks i = surveyChecks (call .wide i) (call .high i) (call .cut i) 0 (call .deep i) (call .whole i) (call .list i) (call .judged i) (call .near i) 2728 256

@@ -75,11 +75,12 @@ reportText a q = heading (a .frames) (reportCrop a) ++ joined (a .frames) (frame
 abbrev pub inputOptions : Options
 inputOptions = record { bits = 6; tolerance = 4; shrink = average }
 
--- The input as frames of 64 by 64, one after another: reference 0, percentile 50.
+-- The input as frames of 64 by 64, one after another: reference 0, percentile 50 for each.
 unfoldable pub inputStack : List ℕ → Stack
 inputStack input =
-    let sides : List ℕ = replicate (length input / 4096) 64 in
-    stackOf sides sides input 0 50 inputOptions
+    let frames = length input / 4096 in
+    let sides : List ℕ = replicate frames 64 in
+    stackOf sides sides (replicate frames 50) input 0 inputOptions
 
 -- r 1, f 1, m 0.
 abbrev pub inputTerms : Terms

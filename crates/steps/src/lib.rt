@@ -37,6 +37,9 @@ const SIDE: usize = 64;
 
 const FRAMES: usize = 8;
 
+// Each is cut at this percentile.
+const PERCENTILE: u8 = 50;
+
 // Samples of a frame, and of the longest input.
 const FRAME: usize = SIDE * SIDE;
 
@@ -178,12 +181,11 @@ fn put_refusal(out: &mut [u8], number: u32) -> usize
 // ---- the program
 
 fn options() -> Options
-    ensures { λ r. ⌜ (optionsIn r ≡ inputOptions) × (r .percentile ≡ 50) ⌝ }
+    ensures { λ r. ⌜ optionsIn r ≡ inputOptions ⌝ }
 {
     Options {
         bits: 6,
         tolerance: 4,
-        percentile: 50,
         shrink: Shrink::Average,
     }
 }
@@ -202,12 +204,14 @@ fn terms() -> Terms
 fn put_answer(
     widths: &[usize],
     heights: &[usize],
+    percentiles: &[u8],
     samples: &[u8],
     shifts: &mut [i32],
     verdicts: &mut [u8],
     out: &mut [u8],
 ) -> usize
     requires { ⌜ (length (now widths) ≤ 8) × (now widths ≡ replicate (length (now widths)) 64) × (now heights ≡ now widths) ⌝ }
+    requires { ⌜ now percentiles ≡ replicate (length (now widths)) 50 ⌝ }
     requires { ⌜ (length (now samples) ≡ length (now widths) * 4096) × (length (now shifts) ≡ 2 * length (now widths)) × (length (now verdicts) ≡ length (now widths)) ⌝ }
     ensures text { λ r. ⌜ Put (now (out .entry)) 0 (text (now (samples .entry))) (now (out .exit)) r ⌝ }
     ensures shifts { λ _. ⌜ now (shifts .exit) ≡ cond (eqb (length (now (widths .entry))) 0) (now (shifts .entry)) (listed (stacks.shifts (inputStack (now (samples .entry))))) ⌝ }
@@ -219,6 +223,7 @@ fn put_answer(
     let answer = mtb_align::report::report(
         widths,
         heights,
+        percentiles,
         samples,
         0,
         options(),
@@ -244,11 +249,13 @@ fn put_report(samples: &[u8], n: usize, out: &mut [u8]) -> usize
 {
     let widths = [SIDE; FRAMES];
     let heights = [SIDE; FRAMES];
+    let percentiles = [PERCENTILE; FRAMES];
     let mut shifts = [0i32; 2 * FRAMES];
     let mut verdicts = [0u8; FRAMES];
     put_answer(
         &widths[0..n],
         &heights[0..n],
+        &percentiles[0..n],
         samples,
         &mut shifts[0..2 * n],
         &mut verdicts[0..n],

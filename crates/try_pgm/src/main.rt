@@ -23,6 +23,9 @@ const SAMPLES: usize = FRAMES * FRAME;
 // Room for a file with long headers, and the frames.
 const INPUT: usize = 3 * SAMPLES;
 
+// Each frame is cut at its median.
+const PERCENTILES: [u8; FRAMES] = [50; FRAMES];
+
 // The halved levels of two frames, and the bitmaps of both.
 const SCRATCH: usize = 2 * (32 * 32 + 16 * 16 + 8 * 8 + 4 * 4 + 2 * 2);
 
@@ -35,7 +38,6 @@ fn options() -> Options {
     Options {
         bits: 6,
         tolerance: 4,
-        percentile: 50,
         shrink: Shrink::Average,
     }
 }
@@ -55,6 +57,7 @@ fn aligned(widths: &[usize], heights: &[usize], samples: &[u8], shifts: &mut [i3
     match mtb_align::align::align_stack(
         widths,
         heights,
+        &PERCENTILES,
         samples,
         0,
         options(),
@@ -110,6 +113,7 @@ fn reported(
     match mtb_align::report::report(
         widths,
         heights,
+        &PERCENTILES,
         samples,
         0,
         options(),

@@ -9,6 +9,7 @@ use replay::MARK;
 use replay::MARK_COORDINATE;
 use replay::MARK_WORD;
 use replay::answers::bits32;
+use replay::answers::byte;
 use replay::answers::bytes_agree;
 use replay::answers::bytes_listed;
 use replay::answers::mode;
@@ -104,6 +105,7 @@ fn stepped(
     reference: &[u8],
     width: usize,
     height: usize,
+    percentile: u8,
     target: &[u8],
     scratch: &mut [u8],
     words: &mut [u64],
@@ -112,17 +114,26 @@ fn stepped(
         reference,
         width,
         height,
+        percentile,
         target,
         at(numbers, 0),
         at(numbers, 1),
-        options(rest(numbers, 2)),
+        byte(at(numbers, 2)),
+        options(rest(numbers, 3)),
         scratch,
         words,
     );
     step_agrees(rest(numbers, 10), answer) && past_marked(part(numbers, 8, 2), scratch, words)
 }
 
-fn step_in(numbers: &[u64], reference: &[u8], width: usize, height: usize, target: &[u8]) -> bool {
+fn step_in(
+    numbers: &[u64],
+    reference: &[u8],
+    width: usize,
+    height: usize,
+    percentile: u8,
+    target: &[u8],
+) -> bool {
     let len = at(numbers, 6);
     if len > SCRATCH {
         return false;
@@ -138,6 +149,7 @@ fn step_in(numbers: &[u64], reference: &[u8], width: usize, height: usize, targe
         reference,
         width,
         height,
+        percentile,
         target,
         &mut scratch[0..len],
         &mut words[0..count],
@@ -145,17 +157,18 @@ fn step_in(numbers: &[u64], reference: &[u8], width: usize, height: usize, targe
 }
 
 pub(crate) fn shift(numbers: &[u64], reference: &[u8]) -> bool {
-    let len = at(numbers, 2);
+    let len = at(numbers, 3);
     if len > SAMPLES {
         return false;
     }
     let mut target = [0u8; SAMPLES];
-    bytes(part(numbers, 3, len), &mut target);
+    bytes(part(numbers, 4, len), &mut target);
     step_in(
-        rest(numbers, 3 + len),
+        rest(numbers, 4 + len),
         reference,
         at(numbers, 0),
         at(numbers, 1),
+        byte(at(numbers, 2)),
         &target[0..len],
     )
 }
@@ -176,6 +189,7 @@ fn aligned(
     numbers: &[u64],
     widths: &[usize],
     heights: &[usize],
+    percentiles: &[u8],
     samples: &[u8],
     shifts: &mut [i32],
     scratch: &mut [u8],
@@ -184,6 +198,7 @@ fn aligned(
     let answer = mtb_align::align::align_stack(
         widths,
         heights,
+        percentiles,
         samples,
         at(numbers, 0),
         options(rest(numbers, 1)),
@@ -191,25 +206,26 @@ fn aligned(
         scratch,
         words,
     );
-    shifts_agree(rest(numbers, 10), answer, shifts)
-        && past_marked(part(numbers, 8, 2), scratch, words)
+    shifts_agree(rest(numbers, 9), answer, shifts)
+        && past_marked(part(numbers, 7, 2), scratch, words)
 }
 
 pub(crate) fn align_stack(
     numbers: &[u64],
     widths: &[usize],
     heights: &[usize],
+    percentiles: &[u8],
     samples: &[u8],
 ) -> bool {
-    let n = at(numbers, 5);
+    let n = at(numbers, 4);
     if n > 2 * FRAMES {
         return false;
     }
-    let len = at(numbers, 6);
+    let len = at(numbers, 5);
     if len > SCRATCH {
         return false;
     }
-    let count = at(numbers, 7);
+    let count = at(numbers, 6);
     if count > SCRATCH_WORDS {
         return false;
     }
@@ -220,6 +236,7 @@ pub(crate) fn align_stack(
         numbers,
         widths,
         heights,
+        percentiles,
         samples,
         &mut shifts[0..n],
         &mut scratch[0..len],

@@ -39,7 +39,7 @@ const SCRATCH_WORDS: usize = 1024;
 // More frames than a stack may have.
 const FRAMES: usize = 32;
 
-// A call on a stack. Its samples are loaded; the numbers go on with its widths and heights.
+// A call on a stack. Its samples are loaded; the numbers go on with its widths, heights and percentiles.
 fn on_stack(numbers: &[u64], call: usize, samples: &[u8]) -> bool {
     let n = at(numbers, 0);
     if n > FRAMES {
@@ -49,15 +49,33 @@ fn on_stack(numbers: &[u64], call: usize, samples: &[u8]) -> bool {
     if m > FRAMES {
         return false;
     }
+    let p = at(numbers, 2 + n + m);
+    if p > FRAMES {
+        return false;
+    }
     let mut widths = [0usize; FRAMES];
     let mut heights = [0usize; FRAMES];
+    let mut percentiles = [0u8; FRAMES];
     sizes(part(numbers, 1, n), &mut widths);
     sizes(part(numbers, 2 + n, m), &mut heights);
-    let asked = rest(numbers, 2 + n + m);
+    bytes(part(numbers, 3 + n + m, p), &mut percentiles);
+    let asked = rest(numbers, 3 + n + m + p);
     if call == 17 {
-        return align::align_stack(asked, &widths[0..n], &heights[0..m], samples);
+        return align::align_stack(
+            asked,
+            &widths[0..n],
+            &heights[0..m],
+            &percentiles[0..p],
+            samples,
+        );
     }
-    report::report(asked, &widths[0..n], &heights[0..m], samples)
+    report::report(
+        asked,
+        &widths[0..n],
+        &heights[0..m],
+        &percentiles[0..p],
+        samples,
+    )
 }
 
 // A call on samples or a file, which are loaded. A frame that a call writes is lent marked, and longer than it may need; the case cuts it as the
@@ -152,7 +170,7 @@ fn replayed(text: &[u8]) {
 }
 
 fn main() {
-    let mut text = [0u8; 2097152];
+    let mut text = [0u8; 3145728];
     let n = io::read_full(0, &mut text);
     replayed(&text[..n]);
 }

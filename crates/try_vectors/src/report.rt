@@ -115,6 +115,7 @@ fn reported(
     numbers: &[u64],
     widths: &[usize],
     heights: &[usize],
+    percentiles: &[u8],
     samples: &[u8],
     shifts: &mut [i32],
     verdicts: &mut [u8],
@@ -125,38 +126,45 @@ fn reported(
     let answer = mtb_align::report::report(
         widths,
         heights,
+        percentiles,
         samples,
         at(numbers, 0),
         options(rest(numbers, 1)),
-        terms(rest(numbers, 5)),
+        terms(rest(numbers, 4)),
         shifts,
         verdicts,
         records,
         scratch,
         words,
     );
-    answer_agrees(rest(numbers, 15), answer, shifts, verdicts, records)
-        && past_marked(part(numbers, 12, 2), scratch, words)
+    answer_agrees(rest(numbers, 14), answer, shifts, verdicts, records)
+        && past_marked(part(numbers, 11, 2), scratch, words)
 }
 
-pub(crate) fn report(numbers: &[u64], widths: &[usize], heights: &[usize], samples: &[u8]) -> bool {
-    let m = at(numbers, 8);
+pub(crate) fn report(
+    numbers: &[u64],
+    widths: &[usize],
+    heights: &[usize],
+    percentiles: &[u8],
+    samples: &[u8],
+) -> bool {
+    let m = at(numbers, 7);
     if m > 2 * FRAMES {
         return false;
     }
-    let n = at(numbers, 9);
+    let n = at(numbers, 8);
     if n > FRAMES {
         return false;
     }
-    let len = at(numbers, 10);
+    let len = at(numbers, 9);
     if len > SCRATCH {
         return false;
     }
-    let count = at(numbers, 11);
+    let count = at(numbers, 10);
     if count > SCRATCH_WORDS {
         return false;
     }
-    let space = at(numbers, 14);
+    let space = at(numbers, 13);
     if space > RECORD_SPACE {
         return false;
     }
@@ -169,6 +177,7 @@ pub(crate) fn report(numbers: &[u64], widths: &[usize], heights: &[usize], sampl
         numbers,
         widths,
         heights,
+        percentiles,
         samples,
         &mut shifts[0..m],
         &mut verdicts[0..n],

@@ -254,8 +254,10 @@ pub fn bracket(random: &mut Random, _: usize) -> Outcome {
         bytes.extend(&made.bytes[..made.header]);
         bytes.extend(frame);
     }
-    let made = Frames::of_one_size(frames, (width, height), random.below(count));
-    let (options, input) = (options(random), shown(&bytes, 0));
+    let reference = random.below(count);
+    let (options, percentile) = options(random);
+    let made = Frames::alike(frames, (width, height), percentile, reference);
+    let input = shown(&bytes, 0);
     let rivalry = Rivalry {
         reach: random.below(4) as u32,
         floor: 1,
@@ -276,6 +278,7 @@ pub fn bracket(random: &mut Random, _: usize) -> Outcome {
         widths: &read.widths,
         heights: &read.heights,
         samples: &read.samples,
+        percentiles: &made.percentiles,
         reference: made.reference,
     };
     let [read, lent] = [read, made.stack()].map(|stack| {

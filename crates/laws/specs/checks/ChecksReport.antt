@@ -17,24 +17,24 @@ use Rattle.laws.specs.general.Members.{of-map}
 use Rattle.laws.specs.checks.ChecksStack.{StackInOrder, stack-in-order}
 
 -- a report whose checks up to its scratch pass: a stack in order, a verdict a frame, and a reach of at most 64
-pub record SurveyInOrder (a : Stack) (heights shiftList verdictList reach bytes words : ℕ) : Type 0 where
-  pub stack : StackInOrder a heights shiftList bytes words
+pub record SurveyInOrder (a : Stack) (heights percentiles shiftList verdictList reach bytes words : ℕ) : Type 0 where
+  pub stack : StackInOrder a heights percentiles shiftList bytes words
   pub judged : verdictList ≡ a .frames
   pub near : reach ≤ 64
 
-pub survey-in-order : (widths heights samples : List ℕ) (reference percentile : ℕ) (o : Options) (shiftList verdictList reach bytes words : ℕ)
-    → accepted (tt {0}) ≡ answer (surveyChecks widths heights percentile reference (o .bits) (length samples) shiftList verdictList reach bytes words) tt
-    → SurveyInOrder (stackOf widths heights samples reference percentile o) (length heights) shiftList verdictList reach bytes words
+pub survey-in-order : (widths heights percentiles samples : List ℕ) (reference : ℕ) (o : Options) (shiftList verdictList reach bytes words : ℕ)
+    → accepted (tt {0}) ≡ answer (surveyChecks widths heights percentiles reference (o .bits) (length samples) shiftList verdictList reach bytes words) tt
+    → SurveyInOrder (stackOf widths heights percentiles samples reference o) (length heights) (length percentiles) shiftList verdictList reach bytes words
 unfolding stackOf surveyChecks stackChecks wrongLength reachOver
-survey-in-order widths heights samples reference percentile o shiftList verdictList reach bytes words e =
-    let frames = framesChecks widths heights percentile reference in
+survey-in-order widths heights percentiles samples reference o shiftList verdictList reach bytes words e =
+    let frames = framesChecks widths heights percentiles reference in
     let a = passed-all (tt {0}) frames _ (sym e) in
     let b = passed (tt {0}) _ _ (a .1) in
     let c = passed (tt {0}) _ _ (b .1) in
     let v = passed (tt {0}) _ _ (c .1) in
     let r = passed (tt {0}) _ _ (v .1) in
     record {
-      stack = stack-in-order widths heights samples reference percentile o shiftList bytes words
+      stack = stack-in-order widths heights percentiles samples reference o shiftList bytes words
           (skip-all (tt {0}) frames _ (a .0) (skip (tt {0}) _ _ (b .0) (skip (tt {0}) _ _ (c .0) (sym (r .1)))));
       judged = eqb-true verdictList (length widths) (not-false _ (v .0));
       near = ltb-false 64 reach (r .0);
@@ -75,23 +75,24 @@ below-append l {m} h k c i = ⊎-elim (λ (n : List·Memᴰ c l). h c n) (λ (n 
 below-map : (f : ℕ → Check) (l : List ℕ) → ((n : ℕ) → f n .number < 10) → Below10 (map f l)
 below-map f l h c m = let t = of-map f l m in omega (arith, ap (λ (x : Check). x .number) (t .2), h (t .0))
 
-survey-below-ten : (widths heights : List ℕ) (percentile reference bits samples shiftList verdictList reach bytes words : ℕ) (c : Check)
-    → List·Memᴰ c (surveyChecks widths heights percentile reference bits samples shiftList verdictList reach bytes words) → c .number < 10
+survey-below-ten : (widths heights percentiles : List ℕ) (reference bits samples shiftList verdictList reach bytes words : ℕ) (c : Check)
+    → List·Memᴰ c (surveyChecks widths heights percentiles reference bits samples shiftList verdictList reach bytes words) → c .number < 10
 unfolding surveyChecks framesChecks stackScratchChecks framesOver wrongLength sideOver percentileOver noReference pairDiffers reachOver scratchShort
-survey-below-ten widths heights percentile reference bits samples shiftList verdictList reach bytes words =
+survey-below-ten widths heights percentiles reference bits samples shiftList verdictList reach bytes words =
     let n = length widths in
     let w = getD widths 0 0 in
     let h = getD heights 0 0 in
     let sides = below-append (map sideOver widths) (below-map sideOver widths (λ k. omega arith)) (below-map sideOver heights (λ k. omega arith)) in
+    let entries = below-append (map sideOver widths ++ map sideOver heights) sides (below-map percentileOver percentiles (λ k. omega arith)) in
     let pairs = below-map (pairDiffers widths heights reference) (walk reference n) (λ k. omega arith) in
-    let frames : Below10 (framesChecks widths heights percentile reference) =
+    let frames : Below10 (framesChecks widths heights percentiles reference) =
     below-more (framesOver n) (omega arith)
     (below-more (framesOver (length heights)) (omega arith)
     (below-more (wrongLength (length heights) n) (omega arith)
-    (below-append (map sideOver widths ++ map sideOver heights) sides
-    (below-more (percentileOver percentile) (omega arith)
+    (below-more (wrongLength (length percentiles) n) (omega arith)
+    (below-append (map sideOver widths ++ map sideOver heights ++ map percentileOver percentiles) entries
     (below-more (noReference reference n) (omega arith) pairs))))) in
-    below-append (framesChecks widths heights percentile reference) frames
+    below-append (framesChecks widths heights percentiles reference) frames
     (below-more (wrongLength samples (n * (w * h))) (omega arith)
     (below-more (wrongLength shiftList (2 * n)) (omega arith)
     (below-more (wrongLength verdictList n) (omega arith)
@@ -99,13 +100,13 @@ survey-below-ten widths heights percentile reference bits samples shiftList verd
     (below-more (scratchShort bytes (stackNeed n (stepBytes w h bits))) (omega arith)
     (below-more (scratchShort words (stackNeed n (stepWords w h))) (omega arith) below-none))))))
 
-pub survey-refused : (widths heights : List ℕ) (percentile reference bits samples shiftList verdictList reach bytes words : ℕ) {n : ℕ} {v : List ℕ}
-    → answer (surveyChecks widths heights percentile reference bits samples shiftList verdictList reach bytes words) (tt {0}) ≡ refused n v → n < 10
-survey-refused widths heights percentile reference bits samples shiftList verdictList reach bytes words e =
-    let l = surveyChecks widths heights percentile reference bits samples shiftList verdictList reach bytes words in
+pub survey-refused : (widths heights percentiles : List ℕ) (reference bits samples shiftList verdictList reach bytes words : ℕ) {n : ℕ} {v : List ℕ}
+    → answer (surveyChecks widths heights percentiles reference bits samples shiftList verdictList reach bytes words) (tt {0}) ≡ refused n v → n < 10
+survey-refused widths heights percentiles reference bits samples shiftList verdictList reach bytes words e =
+    let l = surveyChecks widths heights percentiles reference bits samples shiftList verdictList reach bytes words in
     let f = first-fails (tt {0}) l e in
     let m : List·Memᴰ (f .check) l = subst (List·Memᴰ (f .check)) (sym (f .split)) (Memᴰ·append-right (f .before) (List·Memᴰ·head refl)) in
-    omega (arith, survey-below-ten widths heights percentile reference bits samples shiftList verdictList reach bytes words (f .check) m, f .says .0)
+    omega (arith, survey-below-ten widths heights percentiles reference bits samples shiftList verdictList reach bytes words (f .check) m, f .says .0)
 
 module _ (before : List Check) (needed space : ℕ) {A : Type 0} (a : A) where
   -- an accepted report passed the others and has the space

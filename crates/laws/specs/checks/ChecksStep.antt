@@ -17,26 +17,28 @@ module _ {A : Type 0} (a : A) (w h w′ h′ : ℕ) (l : List Check) where
   unfolding sizesDiffer
   sizes-skip e q = skip a (sizesDiffer w h w′ h′) l e q
 
-pub record StepInOrder (w h percentile bits reference target bytes words : ℕ) : Type 0 where
+pub record StepInOrder (w h p p′ bits reference target bytes words : ℕ) : Type 0 where
   pub wide : w ≤ 8192
   pub high : h ≤ 8192
-  pub cut : percentile ≤ 100
+  pub first : p ≤ 100
+  pub second : p′ ≤ 100
   pub reference-whole : reference ≡ w * h
   pub target-whole : target ≡ w * h
   pub room : stepBytes w h bits ≤ bytes
   pub space : stepWords w h ≤ words
 
-pub step-in-order : (w h w′ h′ percentile bits reference target bytes words : ℕ)
-    → accepted (tt {0}) ≡ answer (stepChecks w h w′ h′ percentile bits reference target bytes words) tt
-    → StepInOrder w h percentile bits reference target bytes words
+pub step-in-order : (w h p w′ h′ p′ bits reference target bytes words : ℕ)
+    → accepted (tt {0}) ≡ answer (stepChecks w h p w′ h′ p′ bits reference target bytes words) tt
+    → StepInOrder w h p p′ bits reference target bytes words
 unfolding stepChecks sideOver wrongLength percentileOver scratchShort
-step-in-order w h w′ h′ percentile bits reference target bytes words e =
+step-in-order w h p w′ h′ p′ bits reference target bytes words e =
     let a = passed (tt {0}) _ _ (sym e) in
     let b = passed (tt {0}) _ _ (a .1) in
     let c = passed (tt {0}) _ _ (b .1) in
     let d = passed (tt {0}) _ _ (c .1) in
-    let p = passed (tt {0}) _ _ (d .1) in
-    let q = passed (tt {0}) _ _ (p .1) in
+    let f = passed (tt {0}) _ _ (d .1) in
+    let s = passed (tt {0}) _ _ (f .1) in
+    let q = passed (tt {0}) _ _ (s .1) in
     let r = passed (tt {0}) _ _ (q .1) in
     let t = passed (tt {0}) _ _ (r .1) in
     let u = passed (tt {0}) _ _ (t .1) in
@@ -44,7 +46,8 @@ step-in-order w h w′ h′ percentile bits reference target bytes words e =
     record {
       wide = ltb-false 8192 w (a .0);
       high = ltb-false 8192 h (b .0);
-      cut = ltb-false 100 percentile (p .0);
+      first = ltb-false 100 p (f .0);
+      second = ltb-false 100 p′ (s .0);
       reference-whole = eqb-true reference (w * h) (not-false _ (r .0));
       target-whole = eqb-true target (w * h) (not-false _ (t .0));
       room = ltb-false bytes (stepBytes w h bits) (u .0);

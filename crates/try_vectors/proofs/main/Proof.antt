@@ -10,7 +10,7 @@ pub main-spec : {M : Type 1} → statement M
 main-spec =
     tie.close
     (tie.spec
-    (λ c. sym (length-replicate {A = ℕ} 2097152 0))
+    (λ c. sym (length-replicate {A = ℕ} 3145728 0))
     (λ c κs. search needs)
     (λ c. c .before .read-full .ensures .0)
     (λ c. c .before .before .read-full .ensures .1)

@@ -20,9 +20,9 @@ asked s =
     record {
       widths = a .widths .now;
       heights = a .heights .now;
+      percentiles = a .percentiles .now;
       samples = a .samples .now;
       reference = a .reference;
-      percentile = a .options .percentile;
       options = optionsIn (a .options);
       shifts = length (a .shifts .now);
       bytes = length (a .bytes .now);
@@ -30,34 +30,34 @@ asked s =
     }
 
 -- past the checks
-passes : (c : tie.After-enum-told) → accepted (tt {0}) ≡ answer (checksOfStack (asked (c .before .before .before .before .before .before .before .before))) tt
+passes : (c : tie.After-enum-told) → accepted (tt {0}) ≡ answer (checksOfStack (asked (c .before .before .before .before .before .before .before .before .before))) tt
 passes c = ap outcome (sym (c .enum-told .given .1)) ∙ c .before .before .stack-fits .ensures
 
 held : (c : tie.After-enum-told)
-    → let a = asked (c .before .before .before .before .before .before .before .before) in
-    StackInOrder (stackAsked a) (length (a .heights)) (a .shifts) (a .bytes) (a .words)
+    → let a = asked (c .before .before .before .before .before .before .before .before .before) in
+    StackInOrder (stackAsked a) (length (a .heights)) (length (a .percentiles)) (a .shifts) (a .bytes) (a .words)
 held c =
-    let a = asked (c .before .before .before .before .before .before .before .before) in
-    stack-in-order (a .widths) (a .heights) (a .samples) (a .reference) (a .percentile) (a .options) _ _ _ (passes c)
+    let a = asked (c .before .before .before .before .before .before .before .before .before) in
+    stack-in-order (a .widths) (a .heights) (a .percentiles) (a .samples) (a .reference) (a .options) _ _ _ (passes c)
 
-shared-slice-read-t18 : tie.Need-shared-slice-read-t18
+shared-slice-read-t19 : tie.Need-shared-slice-read-t19
 unfolding stackOf
-shared-slice-read-t18 c = omega (arith, held (c .before) .small .reference)
+shared-slice-read-t19 c = omega (arith, held (c .before) .small .reference)
 
-shared-slice-read-t20 : tie.Need-shared-slice-read-t20
+shared-slice-read-t21 : tie.Need-shared-slice-read-t21
 unfolding stackOf
-shared-slice-read-t20 c = let q = held (c .before .before) in omega (arith, q .small .reference, q .same)
+shared-slice-read-t21 c = let q = held (c .before .before) in omega (arith, q .small .reference, q .same)
 
 walk-requires : tie.Need-walk-requires
 unfolding stackOf
-walk-requires c κs = let q = held (c .before .before .before .before .before) in (ready _ _ q, omega (arith, q .list))
+walk-requires c κs = let q = held (c .before .before .before .before .before) in (ready _ _ _ q, omega (arith, q .list))
 
 returns : tie.Need-returns
 unfolding stackOf
 returns c =
     let w = c .before .before .before .before .before in
     let d = w .before .before .before .before .before .before in
-    let a = asked (d .before .before .before .before .before .before .before .before) in
+    let a = asked (d .before .before .before .before .before .before .before .before .before) in
     let l = checksOfStack a in
     let stack = stackAsked a in
     let e = passes d in
@@ -71,7 +71,7 @@ returns c =
 
 returns-2 : tie.Need-returns-2
 returns-2 c =
-    let a = asked (c .before .before .before .before .before .before .before .before .before) in
+    let a = asked (c .before .before .before .before .before .before .before .before .before .before) in
     let l = checksOfStack a in
     let e : refusal (c .before .error .given .0 .0) ≡ answer l (tt {0}) = ap outcome (sym (c .before .error .given .1)) ∙ c .before .before .before .stack-fits .ensures in
     record {
@@ -87,8 +87,8 @@ align-stack-spec =
     (tie.spec
     (λ c κs. search needs)
     (λ c. search needs)
-    shared-slice-read-t18
-    shared-slice-read-t20
+    shared-slice-read-t19
+    shared-slice-read-t21
     walk-requires
     (λ c. search needs)
     (λ c. search needs)

@@ -13,7 +13,7 @@ use Rattle.mtb_align.proofs.align.shift.Tie as tie
 abbrev checks : tie.Start → List Check
 checks c =
     let x = c .args in
-    stepChecks (x .width) (x .height) (x .target-width) (x .target-height) (x .options .percentile) (x .options .bits)
+    stepChecks (x .width) (x .height) (x .percentile) (x .target-width) (x .target-height) (x .target-percentile) (x .options .bits)
     (length (x .reference .now)) (length (x .target .now)) (length (x .bytes .now)) (length (x .words .now))
 
 -- past the checks
@@ -22,12 +22,12 @@ passes c = ap outcome (sym (c .enum-told .given .1)) ∙ c .before .before .step
 
 step-of-requires : tie.Need-step-of-requires
 step-of-requires c κs =
-    let f = step-in-order _ _ _ _ _ _ _ _ _ _ (passes (c .before .before)) in (
+    let f = step-in-order _ _ _ _ _ _ _ _ _ _ _ (passes (c .before .before)) in (
       record {
         wide = f .wide;
         high = f .high;
-        first = f .cut;
-        second = f .cut;
+        first = f .first;
+        second = f .second;
         reference-whole = f .reference-whole;
         target-whole = f .target-whole;
         maps = f .space;

@@ -1,46 +1,70 @@
 use mathlib.Core.Path.{_≡_, ap, _∙_}
 use mathlib.Core.Bool.{Bool, cond}
-use mathlib.Core.List.{[], _++_, map}
+use mathlib.Core.List.{List, [], _∷_, _++_, map}
 use borrow.Author.Needs.{needs}
-use Rattle.definitions.specs.Refusals.{Answer, accepted, refused, answer, sideOver, framesChecks}
-use Rattle.laws.specs.checks.Checks.{length-stop, percentile-stop, percentile-skip}
-use Rattle.laws.specs.checks.ChecksStack.{frames-stop, frames-skip, reference-stop, pairsLeft, numbersLeft, sides, past-lengths, past-sides, past-numbers, widths-stop, heights-stop}
+use Prim.Native.Nat.{ℕ}
+use native.Mathlib.Omega.{arith}
+use lib.ListN.{length}
+use Rattle.definitions.specs.Refusals.{Check, Answer, accepted, refused, answer, sideOver, wrongLength, percentileOver, framesChecks}
+use Rattle.laws.specs.checks.Checks.{length-stop, length-skip}
+use Rattle.laws.specs.checks.ChecksStack.{frames-stop, frames-skip, reference-stop, referenceLeft, entries, past-lists, past-entries, past-reference, widths-stop, heights-stop, cuts-stop}
 use Rattle.mtb_align.proofs.checks.frames_fit.Statement.{statement}
 use Rattle.mtb_align.proofs.checks.frames_fit.Tie as tie
 
--- what the code's test of a list of sides says
-abbrev sided : Bool → Answer (Unit {0})
-sided over = cond over (refused 1 []) (accepted tt)
+-- what the code's test of a list says, whose refusal has number n
+abbrev told : ℕ → Bool → Answer (Unit {0})
+told n over = cond over (refused n []) (accepted tt)
 
--- past the tests of the lengths
-lengths : (c : tie.Else3) {r : Answer (Unit {0})}
-    → let a = c .before .before .before .before .before .args in
-    r ≡ answer (sides (a .widths .now) (a .heights .now) (a .percentile) (a .reference) ++ numbersLeft (a .widths .now) (a .heights .now) (a .percentile) (a .reference)) tt
-    → r ≡ answer (framesChecks (a .widths .now) (a .heights .now) (a .percentile) (a .reference)) tt
-lengths c h = past-lengths _ _ _ _ (c .before .before .if1 .left) (c .before .if2 .left) (c .if3 .left) h
+-- ---- from a test to the one before it
 
--- past the test of the widths
-wide : (c : tie.Else4) → answer (map sideOver (c .before .before .before .before .before .before .before .args .widths .now)) (tt {0}) ≡ accepted tt
-wide c = c .before .any-over .ensures ∙ ap sided (c .if4 .left)
+abbrev start : tie.Else3 → tie.Start
+start c = c .before .before .before .before .before .before
 
--- past the tests of all sides
-past : (c : tie.Else5) {r : Answer (Unit {0})}
-    → let a = c .before .before .before .before .before .before .before .before .before .args in
-    r ≡ answer (numbersLeft (a .widths .now) (a .heights .now) (a .percentile) (a .reference)) tt
-    → r ≡ answer (framesChecks (a .widths .now) (a .heights .now) (a .percentile) (a .reference)) tt
+abbrev third : tie.Else4 → tie.Else3
+third c = c .before
+
+abbrev fourth : tie.Else5 → tie.Else4
+fourth c = c .before .before
+
+abbrev fifth : tie.Else6 → tie.Else5
+fifth c = c .before .before
+
+abbrev sixth : tie.Else7 → tie.Else6
+sixth c = c .before .before
+
+-- ---- past the tests
+
+-- of the widths' and the heights' number
+lists : (c : tie.Else3) {r : Answer (Unit {0})} → let a = start c .args in
+    r ≡ answer (wrongLength (length (a .percentiles .now)) (length (a .widths .now)) ∷ entries (a .widths .now) (a .heights .now) (a .percentiles .now) (a .reference)
+    ++ referenceLeft (a .widths .now) (a .heights .now) (a .percentiles .now) (a .reference)) tt
+    → r ≡ answer (framesChecks (a .widths .now) (a .heights .now) (a .percentiles .now) (a .reference)) tt
+lists c h = past-lists _ _ _ _ (c .before .before .if1 .left) (c .before .if2 .left) (c .if3 .left) h
+
+-- of the percentiles' number
+lengths : (c : tie.Else4) {r : Answer (Unit {0})} → let a = start (third c) .args in
+    r ≡ answer (entries (a .widths .now) (a .heights .now) (a .percentiles .now) (a .reference) ++ referenceLeft (a .widths .now) (a .heights .now) (a .percentiles .now) (a .reference)) tt
+    → r ≡ answer (framesChecks (a .widths .now) (a .heights .now) (a .percentiles .now) (a .reference)) tt
+lengths c h = lists (third c) (length-skip tt _ _ _ (omega (arith, c .if4 .left)) h)
+
+-- of the widths, the heights and the percentiles themselves
+wide : (c : tie.Else5) → answer (map sideOver (start (third (fourth c)) .args .widths .now)) (tt {0}) ≡ accepted tt
+wide c = c .before .any-over .ensures ∙ ap (told 1) (c .if5 .left)
+
+high : (c : tie.Else6) → answer (map sideOver (start (third (fourth (fifth c))) .args .heights .now)) (tt {0}) ≡ accepted tt
+high c = c .before .any-over2 .ensures ∙ ap (told 1) (c .if6 .left)
+
+low : (c : tie.Else7) → answer (map percentileOver (start (third (fourth (fifth (sixth c)))) .args .percentiles .now)) (tt {0}) ≡ accepted tt
+low c = c .before .any-percentile-over .ensures ∙ ap (told 3) (c .if7 .left)
+
+past : (c : tie.Else7) {r : Answer (Unit {0})} → let a = start (third (fourth (fifth (sixth c)))) .args in
+    r ≡ answer (referenceLeft (a .widths .now) (a .heights .now) (a .percentiles .now) (a .reference)) tt
+    → r ≡ answer (framesChecks (a .widths .now) (a .heights .now) (a .percentiles .now) (a .reference)) tt
 past c h =
-    let d = c .before .before in
-    let a = d .before .before .before .before .before .before .before .args in
-    lengths (d .before .before) (past-sides (a .widths .now) (a .heights .now) (a .percentile) (a .reference) (wide d) (c .before .any-over2 .ensures ∙ ap sided (c .if5 .left)) h)
+    let a = start (third (fourth (fifth (sixth c)))) .args in
+    lengths (fourth (fifth (sixth c))) (past-entries (a .widths .now) (a .heights .now) (a .percentiles .now) (a .reference) (wide (fifth (sixth c))) (high (sixth c)) (low c) h)
 
--- past all tests: what is left are the pairs
-pairs : (c : tie.Else7) {r : Answer (Unit {0})}
-    → let a = c .before .before .before .before .before .before .before .before .before .before .before .args in
-    r ≡ answer (pairsLeft (a .widths .now) (a .heights .now) (a .percentile) (a .reference)) tt
-    → r ≡ answer (framesChecks (a .widths .now) (a .heights .now) (a .percentile) (a .reference)) tt
-pairs c h =
-    let a = c .before .before .before .before .before .before .before .before .before .before .before .args in
-    past (c .before .before) (past-numbers (a .widths .now) (a .heights .now) (a .percentile) (a .reference) (c .before .if6 .left) (c .if7 .left) h)
+-- ---- the answers
 
 returns : tie.Need-returns
 unfolding framesChecks
@@ -55,29 +79,42 @@ unfolding framesChecks
 returns-3 c = frames-skip tt _ _ (c .before .before .if1 .left) (frames-skip tt _ _ (c .before .if2 .left) (length-stop tt _ _ _ (c .if3 .taken)))
 
 returns-4 : tie.Need-returns-4
-returns-4 c =
-    let d = c .before .before in
-    let a = d .before .before .before .before .before .args in
-    lengths d (widths-stop (a .widths .now) (a .heights .now) (a .percentile) (a .reference) (c .before .any-over .ensures ∙ ap sided (c .if4 .taken)))
+returns-4 c = lists (c .before) (length-stop tt _ _ _ (c .if4 .taken))
 
 returns-5 : tie.Need-returns-5
 returns-5 c =
     let d = c .before .before in
-    let a = d .before .before .before .before .before .before .before .args in
-    lengths (d .before .before) (heights-stop (a .widths .now) (a .heights .now) (a .percentile) (a .reference) (wide d) (c .before .any-over2 .ensures ∙ ap sided (c .if5 .taken)))
+    let a = start (third d) .args in
+    lengths d (widths-stop (a .widths .now) (a .heights .now) (a .percentiles .now) (a .reference) (c .before .any-over .ensures ∙ ap (told 1) (c .if5 .taken)))
 
 returns-6 : tie.Need-returns-6
-returns-6 c = past (c .before) (percentile-stop tt _ _ (c .if6 .taken))
+returns-6 c =
+    let e = c .before .before in
+    let a = start (third (fourth e)) .args in
+    lengths (fourth e) (heights-stop (a .widths .now) (a .heights .now) (a .percentiles .now) (a .reference) (wide e) (c .before .any-over2 .ensures ∙ ap (told 1) (c .if6 .taken)))
 
 returns-7 : tie.Need-returns-7
-returns-7 c = past (c .before .before) (percentile-skip tt _ _ (c .before .if6 .left) (reference-stop tt _ _ _ (c .if7 .taken)))
+returns-7 c =
+    let f = c .before .before in
+    let a = start (third (fourth (fifth f))) .args in
+    lengths (fourth (fifth f))
+    (cuts-stop (a .widths .now) (a .heights .now) (a .percentiles .now) (a .reference) (wide (fifth f)) (high f) (c .before .any-percentile-over .ensures ∙ ap (told 3) (c .if7 .taken)))
 
--- a need by name, so that a wrong limit of frames shows in the answer and not here alone
+returns-8 : tie.Need-returns-8
+returns-8 c = past (c .before) (reference-stop tt _ _ _ (c .if8 .taken))
+
+-- needs by name, so that a wrong limit of frames shows in the answer and not here alone
+any-percentile-over-requires : tie.Need-any-percentile-over-requires
+any-percentile-over-requires c κs = search needs
+
 pairs-fit-requires : tie.Need-pairs-fit-requires
 pairs-fit-requires c κs = search needs
 
-returns-8 : tie.Need-returns-8
-returns-8 c = pairs (c .before) (c .pairs-fit .ensures)
+returns-9 : tie.Need-returns-9
+returns-9 c =
+    let f = c .before .before in
+    let a = start (third (fourth (fifth (sixth f)))) .args in
+    past f (past-reference (a .widths .now) (a .heights .now) (a .percentiles .now) (a .reference) (c .before .if8 .left) (c .pairs-fit .ensures))
 
 pub frames-fit-spec : {M : Type 1} → statement M
 frames-fit-spec =
@@ -86,11 +123,13 @@ frames-fit-spec =
     returns
     returns-2
     returns-3
-    (λ c κs. search needs)
     returns-4
     (λ c κs. search needs)
     returns-5
+    (λ c κs. search needs)
     returns-6
+    any-percentile-over-requires
     returns-7
+    returns-8
     pairs-fit-requires
-    returns-8)
+    returns-9)

@@ -14,22 +14,22 @@ use Rattle.mtb_align.proofs.checks.report_fits.Tie as tie
 
 -- past the checks of the frames
 passes : (c : tie.After-enum-told)
-    → let a = c .before .before .before .before .before .args in
-    accepted (tt {0}) ≡ answer (framesChecks (a .widths .now) (a .heights .now) (a .percentile) (a .reference)) tt
+    → let a = c .before .before .before .before .before .before .args in
+    accepted (tt {0}) ≡ answer (framesChecks (a .widths .now) (a .heights .now) (a .percentiles .now) (a .reference)) tt
 passes c = ap outcome (sym (c .enum-told .given .1)) ∙ c .before .before .frames-fit .ensures
 
 held : (c : tie.After-enum-told)
-    → let a = c .before .before .before .before .before .args in
-    FramesInOrder (a .widths .now) (a .heights .now) (a .percentile) (a .reference)
+    → let a = c .before .before .before .before .before .before .args in
+    FramesInOrder (a .widths .now) (a .heights .now) (a .percentiles .now) (a .reference)
 held c = frames-in-order _ _ _ _ (passes c)
 
 -- what is left of the checks then
 frames-pass : (c : tie.After-enum-told) (m : List Check) {r : Answer (Unit {0})} → r ≡ answer m tt
-    → let a = c .before .before .before .before .before .args in
-    r ≡ answer (framesChecks (a .widths .now) (a .heights .now) (a .percentile) (a .reference) ++ m) tt
+    → let a = c .before .before .before .before .before .before .args in
+    r ≡ answer (framesChecks (a .widths .now) (a .heights .now) (a .percentiles .now) (a .reference) ++ m) tt
 frames-pass c m e =
-    let a = c .before .before .before .before .before .args in
-    skip-all tt (framesChecks (a .widths .now) (a .heights .now) (a .percentile) (a .reference)) m (sym (passes c)) e
+    let a = c .before .before .before .before .before .before .args in
+    skip-all tt (framesChecks (a .widths .now) (a .heights .now) (a .percentiles .now) (a .reference)) m (sym (passes c)) e
 
 shared-slice-read-width : tie.Need-shared-slice-read-width
 shared-slice-read-width c = omega (arith, held (c .before) .limits .reference)
@@ -59,11 +59,11 @@ returns-3 c =
 
 -- past the tests of the lengths
 lengths : (c : tie.Else3) {r : Answer (Unit {0})}
-    → let a = c .before .before .before .before .before .before .before .before .before .before .args in
+    → let a = c .before .before .before .before .before .before .before .before .before .before .before .args in
     let w = a .widths .now in
     let h = a .heights .now in
     r ≡ answer (reachOver (a .reach) ∷ stackScratchChecks (length w) (getD w 0 0) (getD h 0 0) (a .bits) (a .bytes) (a .words)) tt
-    → r ≡ answer (surveyChecks w h (a .percentile) (a .reference) (a .bits) (a .samples) (a .shifts) (a .verdicts) (a .reach) (a .bytes) (a .words)) tt
+    → r ≡ answer (surveyChecks w h (a .percentiles .now) (a .reference) (a .bits) (a .samples) (a .shifts) (a .verdicts) (a .reach) (a .bytes) (a .words)) tt
 unfolding surveyChecks
 lengths c e =
     frames-pass (c .before .before .before .before .before) _
@@ -72,7 +72,7 @@ lengths c e =
 returns-4 : tie.Need-returns-4
 unfolding reachOver
 returns-4 c =
-    let s = c .before .before .before .before .before .before .before .before .before .before .before in
+    let s = c .before .before .before .before .before .before .before .before .before .before .before .before in
     lengths (c .before) (stop tt (reachOver (s .args .reach)) _ (lt-ltb 64 _ (c .if4 .taken)))
 
 scratch-fits-requires : tie.Need-scratch-fits-requires
@@ -81,7 +81,7 @@ scratch-fits-requires c κs = let s = held (c .before .before .before .before .b
 returns-5 : tie.Need-returns-5
 unfolding reachOver
 returns-5 c =
-    let s = c .before .before .before .before .before .before .before .before .before .before .before .before in
+    let s = c .before .before .before .before .before .before .before .before .before .before .before .before .before in
     lengths (c .before .before) (skip tt (reachOver (s .args .reach)) _ (le-ltb 64 _ (c .before .if4 .left)) (c .scratch-fits .ensures))
 
 returns-6 : tie.Need-returns-6

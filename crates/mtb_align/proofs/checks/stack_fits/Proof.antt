@@ -11,13 +11,13 @@ use Rattle.mtb_align.proofs.checks.stack_fits.Tie as tie
 
 -- past the checks of the frames
 passes : (c : tie.After-enum-told)
-    → let a = c .before .before .before .before .before .args in
-    accepted (tt {0}) ≡ answer (framesChecks (a .widths .now) (a .heights .now) (a .percentile) (a .reference)) tt
+    → let a = c .before .before .before .before .before .before .args in
+    accepted (tt {0}) ≡ answer (framesChecks (a .widths .now) (a .heights .now) (a .percentiles .now) (a .reference)) tt
 passes c = ap outcome (sym (c .enum-told .given .1)) ∙ c .before .before .frames-fit .ensures
 
 held : (c : tie.After-enum-told)
-    → let a = c .before .before .before .before .before .args in
-    FramesInOrder (a .widths .now) (a .heights .now) (a .percentile) (a .reference)
+    → let a = c .before .before .before .before .before .before .args in
+    FramesInOrder (a .widths .now) (a .heights .now) (a .percentiles .now) (a .reference)
 held c = frames-in-order _ _ _ _ (passes c)
 
 shared-slice-read-width : tie.Need-shared-slice-read-width

@@ -17,7 +17,7 @@ use Rattle.mtb_align.proofs.report.put_found.Statement.{statement}
 use Rattle.mtb_align.proofs.report.put_found.Tie as tie
 
 abbrev stack : tie.Start → Stack
-stack s = stackIn (s .args .frames) (s .args .samples .now)
+stack s = stackIn (s .args .frames) (s .args .percentiles .now) (s .args .samples .now)
 
 -- the verdicts are as many as the list holds
 whole : (s : tie.Start) → sets (s .args .verdicts .now) 0 (verdicts (stack s) (termsIn (s .args .terms))) ≡ verdicts (stack s) (termsIn (s .args .terms))
@@ -25,16 +25,16 @@ unfolding verdicts
 whole s = sets-whole (s .args .verdicts .now) (verdicts (stack s) (termsIn (s .args .terms))) (build-length _ _ ∙ sym (s .pre .1 .1 .0))
 
 copy-run-requires : tie.Need-copy-run-requires
-copy-run-requires c κs = let s = c .before .before .before .before .before .before .before .before in (omega (arith, s .pre .1 .0 .1 .long), omega (arith, s .pre .1 .1 .0))
+copy-run-requires c κs = let s = c .before .before .before .before .before .before .before .before .before in (omega (arith, s .pre .1 .0 .1 .long), omega (arith, s .pre .1 .1 .0))
 
 copy-run-requires-2 : tie.Need-copy-run-requires-2
 copy-run-requires-2 c κs =
-    let s = c .before .before .before .before .before .before .before .before .before .before .before .before in
+    let s = c .before .before .before .before .before .before .before .before .before .before .before .before .before in
     (omega (arith, c .before .before .before .before .before .if1 .taken), omega (arith, s .pre .1 .1 .1))
 
 returns : tie.Need-returns
 returns c =
-    let s = c .before .before .before .before .before .before .before .before .before .before .before .before .before .before .before in
+    let s = c .before .before .before .before .before .before .before .before .before .before .before .before .before .before .before .before in
     let a = s .args in
     let f = s .pre .1 .0 .1 in
     let fits = c .before .before .before .before .before .before .before .before .if1 .taken in (
@@ -50,12 +50,12 @@ returns c =
 
 survey-frames-requires : tie.Need-survey-frames-requires
 survey-frames-requires c κs =
-    let s = c .before .before .before .before .before .before .before .before .before .before in
+    let s = c .before .before .before .before .before .before .before .before .before .before .before in
     (s .pre .0, (s .pre .1 .0 .0, omega (arith, s .pre .1 .1 .0)))
 
 returns-2 : tie.Need-returns-2
 returns-2 c =
-    let s = c .before .before .before .before .before .before .before .before .before .before .before .before .before .before .before .before .before in
+    let s = c .before .before .before .before .before .before .before .before .before .before .before .before .before .before .before .before .before .before in
     let e = c .before .before .before .before .before .before .survey-frames .ensures in
     let number = records-number (stack s) (termsIn (s .args .terms)) in (
       e .1 .0 ∙ whole s,

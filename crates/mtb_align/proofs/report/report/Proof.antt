@@ -24,9 +24,9 @@ asked s = let a = s .args in record {
   stack = record {
     widths = a .widths .now;
     heights = a .heights .now;
+    percentiles = a .percentiles .now;
     samples = a .samples .now;
     reference = a .reference;
-    percentile = a .options .percentile;
     options = optionsIn (a .options);
     shifts = length (a .shifts .now);
     bytes = length (a .bytes .now);
@@ -46,14 +46,14 @@ reported s = reportedOf (stackReported (asked s)) (asked s .terms)
 -- ---- past the first checks
 
 abbrev start : tie.After-enum-told → tie.Start
-start c = c .before .before .before .before .before .before .before .before .before .before
+start c = c .before .before .before .before .before .before .before .before .before .before .before
 
 passes : (c : tie.After-enum-told) → accepted (tt {0}) ≡ answer (firstChecks (asked (start c))) tt
 passes c = ap outcome (sym (c .enum-told .given .1)) ∙ c .before .before .report-fits .ensures
 
 held : (c : tie.After-enum-told) → let a = asked (start c) in
-    SurveyInOrder (stackReported a) (length (a .stack .heights)) (a .stack .shifts) (a .verdicts) (a .terms .reach) (a .stack .bytes) (a .stack .words)
-held c = let a = asked (start c) .stack in survey-in-order (a .widths) (a .heights) (a .samples) (a .reference) (a .percentile) (a .options) _ _ _ _ _ (passes c)
+    SurveyInOrder (stackReported a) (length (a .stack .heights)) (length (a .stack .percentiles)) (a .stack .shifts) (a .verdicts) (a .terms .reach) (a .stack .bytes) (a .stack .words)
+held c = let a = asked (start c) .stack in survey-in-order (a .widths) (a .heights) (a .percentiles) (a .samples) (a .reference) (a .options) _ _ _ _ _ (passes c)
 
 shared-slice-read-report-within : tie.Need-shared-slice-read-report-within
 unfolding stackOf
@@ -67,7 +67,7 @@ report-within-requires : tie.Need-report-within-requires
 unfolding stackOf
 report-within-requires c κs =
     let q = held (c .before .before .before .before .before .before .before .before .before .before) in
-    ((ready _ _ (q .stack), q .near), ((omega (arith, q .stack .small .frames), q .stack .small .frames), (q .stack .list, q .judged)))
+    ((ready _ _ _ (q .stack), q .near), ((omega (arith, q .stack .small .frames), q .stack .small .frames), (q .stack .list, q .judged)))
 
 returns : tie.Need-returns
 unfolding stackOf
@@ -93,7 +93,7 @@ returns c =
 
 returns-2 : tie.Need-returns-2
 returns-2 c =
-    let s = c .before .before .before .before .before .before .before .before .before .before .before in
+    let s = c .before .before .before .before .before .before .before .before .before .before .before .before in
     let first = firstChecks (asked s) in
     let all = allChecks (asked s) in
     let r = reported s in

@@ -19,7 +19,7 @@ use Rattle.mtb_align.proofs.report.report_within.Statement.{statement}
 use Rattle.mtb_align.proofs.report.report_within.Tie as tie
 
 abbrev stack : tie.Start → Stack
-stack s = stackIn (s .args .frames) (s .args .samples .now)
+stack s = stackIn (s .args .frames) (s .args .percentiles .now) (s .args .samples .now)
 
 abbrev asked : tie.Start → Terms
 asked s = termsIn (s .args .terms)
@@ -31,9 +31,9 @@ verdicts-length s = build-length _ _
 -- ---- once the walk is made
 
 abbrev walk-start : tie.After-walk → tie.Start
-walk-start c = c .before .before .before .before .before .before .before .before .before .before .before
+walk-start c = c .before .before .before .before .before .before .before .before .before .before .before .before
 
-placed : (c : tie.After-walk) → Placed (stack (walk-start c)) (c .walk .last .1 .1 .0)
+placed : (c : tie.After-walk) → Placed (stack (walk-start c)) (c .walk .last .1 .1 .1 .0)
 placed c = let s = walk-start c in placed-of (stack s) (s .args .placed .now) (s .pre .1 .0 .0) (c .walk .ensures .0)
 
 -- ---- and the survey
@@ -45,7 +45,7 @@ abbrev survey-start : tie.After-survey-frames → tie.Start
 survey-start c = walk-start (survey-walk c)
 
 found : (c : tie.After-survey-frames) → let s = survey-start c in
-    Found (stack s) (asked s) (c .survey-frames .last .1 .1 .1 .1 .0) (c .survey-frames .last .1 .1 .1 .1 .1 .0) (c .survey-frames .result)
+    Found (stack s) (asked s) (c .survey-frames .last .1 .1 .1 .1 .1 .0) (c .survey-frames .last .1 .1 .1 .1 .1 .1 .0) (c .survey-frames .result)
 found c =
     let s = survey-start c in
     let e = c .survey-frames .ensures in
@@ -59,7 +59,7 @@ found c =
     }
 
 walk-requires : tie.Need-walk-requires
-walk-requires c κs = let s = c .before .before .before .before .before .before .before .before .before .before in (s .pre .0 .0, s .pre .1 .0 .0)
+walk-requires c κs = let s = c .before .before .before .before .before .before .before .before .before .before .before in (s .pre .0 .0, s .pre .1 .0 .0)
 
 survey-frames-requires : tie.Need-survey-frames-requires
 survey-frames-requires c κs =

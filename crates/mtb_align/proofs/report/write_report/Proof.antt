@@ -23,7 +23,7 @@ use Rattle.mtb_align.proofs.report.write_report.Statement.{statement}
 use Rattle.mtb_align.proofs.report.write_report.Tie as tie
 
 abbrev stack : tie.Start → Stack
-stack s = stackIn (s .args .frames) (s .args .samples .now)
+stack s = stackIn (s .args .frames) (s .args .percentiles .now) (s .args .samples .now)
 
 abbrev asked : tie.Start → Terms
 asked s = termsIn (s .args .terms)
@@ -55,11 +55,11 @@ space-front s h e =
     e ∙ sets-front old bytes (omega (arith, long, number s, h)) ∙ ap (λ (m : ℕ). bytes ++ drop m old) long
 
 mul-if1 : tie.Need-mul-if1
-mul-if1 c = record { fits = omega (arith, few (c .before .before .before .before .before .before)) }
+mul-if1 c = record { fits = omega (arith, few (c .before .before .before .before .before .before .before)) }
 
 returns : tie.Need-returns
 returns c =
-    let s = c .before .before .before .before .before .before .before in
+    let s = c .before .before .before .before .before .before .before .before in
     let r = reported s in
     let e : answer (checks s) r ≡ refused 10 (needs-all s ∷ []) =
     refused-for-space r [] (needs-all s) (length (s .args .records .now)) (sym (done r)) (omega (arith, c .if1 .taken, number s)) in (
@@ -74,19 +74,19 @@ returns c =
 
 put-found-requires : tie.Need-put-found-requires
 put-found-requires c κs =
-    let s = c .before .before .before .before .before .before .before .before .before .before in
+    let s = c .before .before .before .before .before .before .before .before .before .before .before in
     (s .pre .0, (s .pre .1 .0, (s .pre .1 .1 .1, c .before .before .before .if1 .left)))
 
 copy-shifts-requires : tie.Need-copy-shifts-requires
 copy-shifts-requires c κs =
-    let s = c .before .before .before .before .before .before .before .before .before .before .before .before .before .before .before .before .before .before in
+    let s = c .before .before .before .before .before .before .before .before .before .before .before .before .before .before .before .before .before .before .before in
     let list = s .pre .1 .1 .0 in
     (omega (arith, list, s .pre .1 .0 .0 .long), omega (arith, list, s .pre .0 .0 .small .frames))
 
 returns-2 : tie.Need-returns-2
 unfolding reportCrop
 returns-2 c =
-    let s = c .before .before .before .before .before .before .before .before .before .before .before .before .before .before .before .before .before .before .before .before .before .before in
+    let s = c .before .before .before .before .before .before .before .before .before .before .before .before .before .before .before .before .before .before .before .before .before .before .before in
     let a = s .args in
     let r = reported s in
     let h = c .before .before .before .before .before .before .before .before .before .before .before .before .before .before .before .if1 .left in

@@ -1,5 +1,5 @@
 use mathlib.Core.Path.{ap₂, _∙_}
-use Prim.Native.Nat.{_+_, _*_, _≤_}
+use Prim.Native.Nat.{_+_, _*_, _≤_, _<_}
 use borrow.Author.Needs.{needs}
 use native.Mathlib.Omega.{arith}
 use lib.ListN.{length}
@@ -10,6 +10,10 @@ use Rattle.mtb_align.proofs.Taken.{frame-inside, frame-whole, maps-fit,
 use Rattle.mtb_align.proofs.rivals.pack_frames.Statement.{statement}
 use Rattle.mtb_align.proofs.rivals.pack_frames.Tie as tie
 
+-- both have a percentile in the list
+listed : (s : tie.Start) → let a = s .args in (a .first < length (a .percentiles .now)) × (a .second < length (a .percentiles .now))
+listed s = let q = s .pre .0 in (omega (arith, s .pre .2, q .each), omega (arith, s .pre .3, q .each))
+
 -- both frames lie within the samples, so that no place of theirs is too large a number
 inside : (s : tie.Start)
     → let a = s .args in
@@ -19,13 +23,13 @@ inside s = let q = s .pre .0 in (frame-inside q (s .args .first) (s .pre .2), fr
 
 pack-both-requires : tie.Need-pack-both-requires
 pack-both-requires c κs =
-    let s = c .before .before .before .before .before .before in
+    let s = c .before .before .before .before .before .before .before .before .before in
     let q = s .pre .0 in
     record {
       wide = q .small .width;
       high = q .small .height;
-      first = q .cut;
-      second = q .cut;
+      first = q .cut _;
+      second = q .cut _;
       reference-whole = frame-whole q (s .args .first) (s .pre .2);
       target-whole = frame-whole q (s .args .second) (s .pre .3);
       maps = maps-fit q (s .pre .1);
@@ -33,28 +37,31 @@ pack-both-requires c κs =
 
 returns : tie.Need-returns
 returns c =
-    let a = c .before .before .before .before .before .before .before .before .before .args in
+    let a = c .before .before .before .before .before .before .before .before .before .before .before .before .args in
     let f = a .frames in
+    let percentiles = a .percentiles .now in
     let samples = a .samples .now in
     c .before .before .pack-both .ensures
     ∙ ap₂ (λ (r t : Exposure). sets (a .words .now) 0 (fourOf (f .width) (f .height) (f .options .tolerance) r t))
-    (taken-is f samples (a .first)) (taken-is f samples (a .second))
+    (taken-is f percentiles samples (a .first)) (taken-is f percentiles samples (a .second))
 
 pub pack-frames-spec : {M : Type 1} → statement M
 pack-frames-spec =
     tie.close
     (tie.spec
-    (λ c. omega (arith, inside (c .before .before .before)))
-    (λ c. omega (arith, inside (c .before .before .before)))
-    (λ c. omega (arith, inside (c .before .before .before)))
-    (λ c. omega (arith, inside (c .before .before .before)))
-    (λ c. omega (arith, inside (c .before .before .before)))
-    (λ c. search needs)
-    (λ c. search needs)
-    (λ c. omega (arith, inside (c .before .before .before)))
-    (λ c. search needs)
-    (λ c. search needs)
     (λ c. omega (arith, inside (c .before .before .before .before)))
+    (λ c. omega (arith, inside (c .before .before .before .before)))
+    (λ c. omega (arith, inside (c .before .before .before .before)))
+    (λ c. omega (arith, inside (c .before .before .before .before)))
+    (λ c. omega (arith, inside (c .before .before .before .before)))
+    (λ c. omega (arith, listed (c .before .before .before .before .before)))
+    (λ c. omega (arith, listed (c .before .before .before .before .before .before)))
+    (λ c. search needs)
+    (λ c. search needs)
+    (λ c. omega (arith, inside (c .before .before .before .before .before .before)))
+    (λ c. search needs)
+    (λ c. search needs)
+    (λ c. omega (arith, inside (c .before .before .before .before .before .before .before)))
     pack-both-requires
     (λ c. search needs)
     returns)

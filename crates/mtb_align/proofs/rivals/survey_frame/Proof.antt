@@ -30,7 +30,7 @@ use Rattle.mtb_align.proofs.rivals.survey_frame.Tie as tie
 
 module _ (s : tie.Start) where
   abbrev stack : Stack
-  stack = stackIn (s .args .frames) (s .args .samples .now)
+  stack = stackIn (s .args .frames) (s .args .percentiles .now) (s .args .samples .now)
 
   abbrev terms : Terms
   terms = termsIn (s .args .terms)
@@ -51,7 +51,7 @@ module _ (s : tie.Start) where
 
 returns : tie.Need-returns
 returns c =
-    let s = c .before .before .before .before .before .before in
+    let s = c .before .before .before .before .before .before .before in
     let e = c .if1 .taken in (
       keeps-same (named s) (shifts-none (frameCounts (stack s) (k s)) (k s) (rivals-none (stack s) (terms s) (k s) e)),
       (ap (set (s .args .judged .now) (k s)) (sym (ap (verdict (stack s) (terms s)) e ∙ verdict-reference (stack s) (terms s))), free-same _ _),
@@ -61,16 +61,16 @@ returns c =
 
 sight-requires : tie.Need-sight-requires
 sight-requires c κs =
-    let p = c .before .before .before .before .before .before .before .pre in
+    let p = c .before .before .before .before .before .before .before .before .pre in
     ((p .0 .0, p .0 .1, c .before .if1 .left), p .1 .0)
 
 words-per-row-requires : tie.Need-words-per-row-requires
-words-per-row-requires c κs = c .before .before .before .before .before .before .before .before .before .before .pre .0 .0 .small .width
+words-per-row-requires c κs = c .before .before .before .before .before .before .before .before .before .before .before .pre .0 .0 .small .width
 
 -- once it and its neighbour are packed
 module _ (c : tie.After-words-per-row) where
   abbrev start : tie.Start
-  start = c .before .before .before .before .before .before .before .before .before .before .before
+  start = c .before .before .before .before .before .before .before .before .before .before .before .before
 
   abbrev apart : k start ≡ start .args .frames .reference → ⊥
   apart = c .before .before .before .before .before .if1 .left
@@ -90,7 +90,7 @@ module _ (c : tie.After-words-per-row) where
 
   -- all words, how many of them are handed on, and those
   abbrev words : List ℕ
-  words = c .before .before .before .sight .last .1 .1 .1 .1 .0
+  words = c .before .before .before .sight .last .1 .1 .1 .1 .1 .0
 
   abbrev end : ℕ
   end = 4 * (h * c .words-per-row .result) - 0
@@ -166,7 +166,7 @@ pub survey-frame-spec : {M : Type 1} → statement M
 survey-frame-spec =
     tie.close
     (tie.spec
-    (λ c. judged-long (c .before .before .before .before .before .before))
+    (λ c. judged-long (c .before .before .before .before .before .before .before))
     (λ c. search needs)
     returns
     sight-requires

@@ -20,8 +20,8 @@ use Rattle.mtb_align.proofs.rivals.survey_frames.Statement.{statement}
 use Rattle.mtb_align.proofs.rivals.survey_frames.Tie as tie
 
 abbrev Inv-loop : tie.InvT-loop
-Inv-loop samples frames terms shifts judged₀ space₀ words₀ number₀ k₀ judged space words number k =
-    let a = stackIn frames samples in
+Inv-loop percentiles samples frames terms shifts judged₀ space₀ words₀ number₀ k₀ judged space words number k =
+    let a = stackIn frames percentiles samples in
     let q = termsIn terms in
     (k ≤ frames .count)
     × Kept space₀ 0 (joined k (frameRecords a q)) space number
@@ -29,16 +29,16 @@ Inv-loop samples frames terms shifts judged₀ space₀ words₀ number₀ k₀ 
     × FreeUpTo (stackWords a) words₀ words
 
 abbrev μ-loop : tie.MeasureT-loop
-μ-loop samples frames terms shifts judged₀ space₀ words₀ number₀ k₀ judged space words number k = frames .count - k
+μ-loop percentiles samples frames terms shifts judged₀ space₀ words₀ number₀ k₀ judged space words number k = frames .count - k
 
 -- ---- at the loop
 
 module _ (c : tie.At-loop Inv-loop μ-loop) where
   abbrev start : tie.Start Inv-loop μ-loop
-  start = c .before .before .before .before .before
+  start = c .before .before .before .before .before .before
 
   abbrev stack : Stack
-  stack = stackIn (start .args .frames) (start .args .samples .now)
+  stack = stackIn (start .args .frames) (start .args .percentiles .now) (start .args .samples .now)
 
   abbrev terms : Terms
   terms = termsIn (start .args .terms)
@@ -61,7 +61,7 @@ survey-frame-requires c κs =
     let turn = c .before .before .before in
     let l = turn .before .before in
     let s = start l in
-    let q = subst (Framed (s .args .frames) (s .args .samples .now)) (sym (l .loop .inv .3 .long)) (s .pre .0 .0) in
+    let q = subst (Framed (s .args .frames) (s .args .percentiles .now) (s .args .samples .now)) (sym (l .loop .inv .3 .long)) (s .pre .0 .0) in
     ((q, turn .if1 .taken, s .pre .0 .1, few l), (s .pre .1 .0, omega (arith, s .pre .1 .1, judged-long l)))
 
 add-k : tie.Need-add-k Inv-loop μ-loop

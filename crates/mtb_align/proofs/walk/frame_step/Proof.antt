@@ -18,6 +18,10 @@ module _ (s : tie.Start) where
       let f = s .args .frames in
       omega (arith, s .pre .3, neighbour-among (f .reference) (s .args .k) (f .count) (s .pre .0 .framed .small .reference) (s .pre .2))
 
+  -- both have a percentile in the list
+  listed : let a = s .args in (a .neighbour < length (a .percentiles .now)) × (a .k < length (a .percentiles .now))
+  listed = let q = s .pre .0 .framed in (omega (arith, among, q .each), omega (arith, s .pre .2, q .each))
+
   -- both frames lie within the samples, so that no place of theirs is too large a number
   inside : let a = s .args in
       let n = a .frames .width * a .frames .height in
@@ -26,15 +30,15 @@ module _ (s : tie.Start) where
 
 step-of-requires : tie.Need-step-of-requires
 step-of-requires c κs =
-    let s = c .before .before .before .before .before .before .before .before in
+    let s = c .before .before .before .before .before .before .before .before .before .before .before in
     let f = s .args .frames in
     let r = s .pre .0 in
     let q = r .framed in (
       record {
         wide = q .small .width;
         high = q .small .height;
-        first = q .cut;
-        second = q .cut;
+        first = q .cut _;
+        second = q .cut _;
         reference-whole = frame-whole q (s .args .neighbour) (among s);
         target-whole = frame-whole q (s .args .k) (s .pre .2);
         maps = maps-fit q (s .pre .1);
@@ -46,14 +50,15 @@ returns : tie.Need-returns
 unfolding stepped stepOf
 returns c =
     let d = c .before .before .before .before .before in
-    let s = d .before .before .before .before .before .before .before .before .before in
+    let s = d .before .before .before .before .before .before .before .before .before .before .before .before in
     let a = s .args in
     let f = a .frames in
+    let percentiles = a .percentiles .now in
     let samples = a .samples .now in
-    let stack = stackIn f samples in
+    let stack = stackIn f percentiles samples in
     let e = d .step-of .ensures in (
       ap (λ (x : Stepped). x .shift) (e .0)
-          ∙ ap₂ (λ (r t : Exposure). step (optionsIn (f .options)) (f .width) (f .height) r t) (taken-is f samples (a .neighbour)) (taken-is f samples (a .k))
+          ∙ ap₂ (λ (r t : Exposure). step (optionsIn (f .options)) (f .width) (f .height) r t) (taken-is f percentiles samples (a .neighbour)) (taken-is f percentiles samples (a .k))
           ∙ ap (λ (i : ℕ). step (optionsIn (f .options)) (f .width) (f .height) (exposure stack i) (exposure stack (a .k))) (s .pre .3),
       (
         need-free (f .count) (stepBytes (f .width) (f .height) (f .options .bits)) (s .pre .1) (e .1 .0),
@@ -65,17 +70,19 @@ pub frame-step-spec : {M : Type 1} → statement M
 frame-step-spec =
     tie.close
     (tie.spec
-    (λ c. omega (arith, inside (c .before .before .before .before)))
-    (λ c. omega (arith, inside (c .before .before .before .before)))
-    (λ c. omega (arith, inside (c .before .before .before .before)))
-    (λ c. omega (arith, inside (c .before .before .before .before)))
-    (λ c. omega (arith, inside (c .before .before .before .before)))
-    (λ c. omega arith)
-    (λ c. search needs)
-    (λ c. omega (arith, inside (c .before .before .before .before)))
-    (λ c. omega arith)
-    (λ c. search needs)
     (λ c. omega (arith, inside (c .before .before .before .before .before)))
+    (λ c. omega (arith, inside (c .before .before .before .before .before)))
+    (λ c. omega (arith, inside (c .before .before .before .before .before)))
+    (λ c. omega (arith, inside (c .before .before .before .before .before)))
+    (λ c. omega (arith, inside (c .before .before .before .before .before)))
+    (λ c. omega (arith, listed (c .before .before .before .before .before .before)))
+    (λ c. omega (arith, listed (c .before .before .before .before .before .before .before)))
+    (λ c. omega arith)
+    (λ c. search needs)
+    (λ c. omega (arith, inside (c .before .before .before .before .before .before .before)))
+    (λ c. omega arith)
+    (λ c. search needs)
+    (λ c. omega (arith, inside (c .before .before .before .before .before .before .before .before)))
     step-of-requires
     (λ c. search needs)
     (λ c. search needs)

@@ -9,7 +9,7 @@ returns : tie.Need-returns
 returns c =
     let p = rw (c .before .before .before .before .before .before .before .before .before .before .before .mode .ensures) at
     (c .before .before .before .before .before .before .before .align-stack .ensures) in
-    let v = c .before .before .before .before .before .before .before .before .before .before .before .before .before .before .before .before .before .args .values .now in
+    let v = c .before .before .before .before .before .before .before .before .before .before .before .before .before .before .before .before .before .before .args .values .now in
     let told = c .status-with .ensures in (
       record { answered = told .0 ∙ ap statusOf (p .answered); placed = p .placed; pixels = p .pixels; maps = p .maps },
       told .1 ∙ ap (λ (a : Answer (Unit {0})). valuesAfter a v) (p .answered),

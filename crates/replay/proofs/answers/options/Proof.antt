@@ -7,23 +7,15 @@ use Rattle.replay.proofs.answers.options.Tie as tie
 
 returns : tie.Need-returns
 returns c =
-    let b = c .before .before .before .before in (
+    let b = c .before .before in (
       b .before .before .bits32 .ensures ∙ ap (λ (n : ℕ). n % 4294967296) (b .before .before .before .at .ensures),
-      (
-        b .byte .ensures ∙ ap (λ (n : ℕ). n % 256) (b .before .at2 .ensures),
-        (
-          c .before .before .byte2 .ensures ∙ ap (λ (n : ℕ). n % 256) (c .before .before .before .at3 .ensures),
-          c .mode .ensures ∙ ap modeAt (c .before .at4 .ensures),
-        ),
-      ),
+      (b .byte .ensures ∙ ap (λ (n : ℕ). n % 256) (b .before .at2 .ensures), c .mode .ensures ∙ ap modeAt (c .before .at3 .ensures)),
     )
 
 pub options-spec : {M : Type 1} → statement M
 options-spec =
     tie.close
     (tie.spec
-    (λ c κs. search needs)
-    (λ c κs. search needs)
     (λ c κs. search needs)
     (λ c κs. search needs)
     (λ c κs. search needs)
