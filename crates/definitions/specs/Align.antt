@@ -145,7 +145,7 @@ pub record Stack : Type 0 where
   pub percentile : ℕ → ℕ
   pub options : Options
 
--- As many frames as widths, all of the first one's size once 01's checks pass, frame k cut at percentile k.
+-- As many frames as widths, all of the first one's size once 01's checks pass, each cut at the percentile that its number has.
 abbrev pub stackCutAt : (ℕ → ℕ) → List ℕ → List ℕ → List ℕ → ℕ → Options → Stack
 stackCutAt percentile widths heights samples reference options = record {
   width = getD widths 0 0;
@@ -157,7 +157,7 @@ stackCutAt percentile widths heights samples reference options = record {
   options = options;
 }
 
--- The stack of a call, each frame cut at its own percentile. Past the last frame the list gives 0, on which nothing rests.
+-- The stack of a call: frame k has percentile k of the list. Past the last frame that is 0, on which nothing rests.
 unfoldable pub stackOf : List ℕ → List ℕ → List ℕ → List ℕ → ℕ → Options → Stack
 stackOf widths heights percentiles samples reference options = stackCutAt (λ (k : ℕ). getD percentiles k 0) widths heights samples reference options
 

@@ -92,19 +92,21 @@ unfolding sum countIf build joined keepIf indexOf source atSources sideAt levelO
     stackOf exposure neighbour stepOf window distance isNeighbourShift comesClose isRival survey frameCounts limitOf rivals verdict
 verdict-of-each-kind = (refl, refl, refl, refl)
 
--- One pixel of 200 in each of two frames, which are cut at percentiles of their own.
-abbrev one-pixel : ℕ → ℕ → Stack
-one-pixel p p′ = stackOf (1 ∷ 1 ∷ []) (1 ∷ 1 ∷ []) (p ∷ p′ ∷ []) (200 ∷ 200 ∷ []) 0 untolerant
+-- Two frames of one pixel each, s at percentile p and s′ at p′. The first is the reference, and the second's neighbour.
+abbrev one-pixel : ℕ → ℕ → ℕ → ℕ → Stack
+one-pixel s p s′ p′ = stackOf (1 ∷ 1 ∷ []) (1 ∷ 1 ∷ []) (p ∷ p′ ∷ []) (s ∷ s′ ∷ []) 0 untolerant
 
--- The cut at 50 is 0, below the sample, and the cut at 100 is 201, above it: so the frames disagree, whichever has which.
-each-at-its-own : (frameCounts (one-pixel 50 100) 1 origin ≡ record { disagreeing = 1; compared = 1 })
-    × (frameCounts (one-pixel 100 50) 1 origin ≡ record { disagreeing = 1; compared = 1 })
-    × (frameCounts (one-pixel 100 100) 1 origin ≡ record { disagreeing = 0; compared = 1 })
+-- Of a pixel of 200 the cut is 0 at 50, below it, and 201 at 100, above it: two such frames disagree at 50 and 100, and not at 100 both. A
+-- pixel of 0 is at its cut at 50, so not trusted, and below it at 100: it disagrees with 200 at 50, and is not compared if each has the other's.
+each-at-its-own : (frameCounts (one-pixel 200 50 200 100) 1 origin ≡ record { disagreeing = 1; compared = 1 })
+    × (frameCounts (one-pixel 200 100 200 100) 1 origin ≡ record { disagreeing = 0; compared = 1 })
+    × (frameCounts (one-pixel 0 100 200 50) 1 origin ≡ record { disagreeing = 1; compared = 1 })
+    × (frameCounts (one-pixel 0 50 200 100) 1 origin ≡ record { disagreeing = 0; compared = 0 })
 unfolding sum countIf build joined indexOf source atSources sideAt levelOf bins target binsAdded cut thresholdBit exclusionBit bitmapsOf
     comparedBit disagreeingBit overlap counts bitmapsAt countsAt stackOf exposure neighbour frameCounts
-each-at-its-own = (refl, refl, refl)
+each-at-its-own = (refl, refl, refl, refl)
 
--- Then the second candidate wins, since it compares nothing.
+-- Where the pixel of 200 disagrees with itself, the second candidate wins, since it compares nothing.
 one-pixel-step : stepped untolerant 1 1 (record { samples = 200 ∷ []; percentile = 50 })
     (record { samples = 200 ∷ []; percentile = 100 }) ≡ record { shift = shift (negsuc 0) (negsuc 0); comparisons = 2 }
 unfolding sum countIf build joined indexOf source atSources sideAt levelOf bins target binsAdded cut thresholdBit exclusionBit bitmapsOf
