@@ -20,9 +20,9 @@
  * order, from the darkest to the brightest or the other way: each is compared with the one next to it, and frames that lie far apart
  * in exposure compare badly. A shift (x, y) moves right and down.
  *
- * Since 4.0.0 every frame has a percentile of its own: mtb_shift takes two, mtb_align_stack and mtb_report a list. A call that was written
- * for an older header does not compile with this one. Declarations that are kept elsewhere, as in Rust or Python, have to be changed by
- * hand: the names are the same, so that an old one links, and passes wrong arguments.
+ * Since 4.0.0 every frame has a percentile of its own: mtb_shift takes two, mtb_align_stack and mtb_report a list. A call of one of these that
+ * was written for an older header does not compile with this one. Declarations that are kept elsewhere, as in Rust or Python, have to be
+ * changed by hand: the names are the same, so that an old one links, and passes wrong arguments.
  *
  * There is no state and no allocation. Calls may run at the same time on separate buffers. MTB_STACK bytes of stack suffice for every
  * call; a thread that calls needs them beside its own.
@@ -52,8 +52,8 @@ extern "C" {
                 Any number is taken.
    tolerance    samples within this distance of the cut are not compared.
    percentile   of each frame, 0 to 100: its cut is the least value that has this share of the frame's samples below it. 50 is the median; a
-                dark frame may want 83, a bright one 17. Frames next to each other should be no more than 5 apart. With one percentile for
-                all frames the shifts are those of the Rust crate mtb-align.
+                dark frame may want 83, a bright one 17. The percentiles of frames next to each other should be no more than 5 apart. With
+                one percentile for all frames the shifts are those of the Rust crate mtb-align.
    subsampled   how frames are halved: MTB_AVERAGE takes the mean of four samples, MTB_SUBSAMPLE the upper left one. */
 #define MTB_BITS 6
 #define MTB_TOLERANCE 4
@@ -207,8 +207,8 @@ uint32_t mtb_disagreement(const uint64_t *reference_threshold, size_t reference_
    target's: each frame is cut at its own, at every level. bytes and words are the scratch that mtb_scratch gives.
    comparisons is the number of shifts that were tried: at each level from L to 0 those up to and including the first that disagrees in no
    pixel, or nine; L + 1 to 9 * (L + 1) in all.
-   Refused: 1 for either size; 3 for either percentile; 4; 2 for reference, target; 7. Writes x, y, comparisons, and the scratch. Refused by 4, writes values:
-   width and height of the reference, then of the target. */
+   Refused: 1 for either size; 3 for either percentile; 4; 2 for reference, target; 7. Writes x, y, comparisons, and the scratch. Refused by 4,
+   writes values: width and height of the reference, then of the target. */
 uint32_t mtb_shift(const uint8_t *reference, size_t reference_length, size_t width, size_t height, uint8_t percentile,
                    const uint8_t *target, size_t target_length, size_t target_width, size_t target_height, uint8_t target_percentile,
                    uint32_t bits, uint8_t tolerance, bool subsampled,
@@ -222,9 +222,8 @@ uint32_t mtb_shift(const uint8_t *reference, size_t reference_length, size_t wid
    and each frame is cut at its own percentile; samples has the frames one after another, shifts 2 * frames entries: x, then y for each frame.
    bytes and words are the scratch that mtb_scratch gives.
    Refused: 6 for widths, heights; 2 for heights, percentiles; 1; 3 for any percentile; 5; 4; 2 for samples, shifts; 7. So 17 percentiles for 16
-   frames are 2. Writes shifts and the scratch. Refused by 5, writes values: the
-   reference and the number of frames; by 4: width and height of a neighbour, those of the frame that differs from it, and that
-   frame's number. */
+   frames are 2. Writes shifts and the scratch. Refused by 5, writes values: the reference and the number of frames; by 4: width and height of a
+   neighbour, those of the frame that differs from it, and that frame's number. */
 uint32_t mtb_align_stack(const size_t *widths, size_t widths_length, const size_t *heights, size_t heights_length,
                          const uint8_t *percentiles, size_t percentiles_length,
                          const uint8_t *samples, size_t samples_length, size_t reference,
@@ -255,10 +254,10 @@ enum mtb_verdict {
 
 /* The stack with every rival of each frame's step: a shift within reach of the step on both axes that compares at least floor pixels and
    disagrees in at most margin more than the step, and is not one of the eight shifts around the step. Both frames of a pair are counted at
-   full size, the frame cut at its own percentile and its neighbour at the neighbour's. The step is a rival itself, unless the
-   frame is weak; the reference has none. At reach 0 and 1 only the step can be one, so that no frame is contested. reach is 0 to 64,
-   floor and margin are any numbers of pixels. Lists and scratch are those of mtb_align_stack; verdicts has one entry a frame. A record
-   space of length 0 asks how many records there are: refused by 10 if there is one.
+   full size, the frame cut at its own percentile and its neighbour at the neighbour's. The step is a rival itself, unless the frame is weak; the
+   reference has none. At reach 0 and 1 only the step can be one, so that no frame is contested. reach is 0 to 64, floor and margin are any
+   numbers of pixels. Lists and scratch are those of mtb_align_stack; verdicts has one entry a frame. A record space of length 0 asks how many
+   records there are: refused by 10 if there is one.
    Refused: as the stack, with verdicts after shifts in the last 2 and 9 before 7; 10. Writes shifts, verdicts, the crop of the shifts (left, top,
    wide, high), count, that many records at the front of records, and the scratch. Refused by 5 or 4, writes values as the stack does; by
    10, the number of records needed to values[0], and the scratch. */
