@@ -82,6 +82,29 @@ saves_up_to() { # NAME
   printf 'P5\n1 1\n255\na' | cmp - "$room/front" || { echo "$1: does not save what stands before an image that cannot be read"; exit 1; }
 }
 
+# Each plane's size, and its steps, which are half of the mosaics': of a board of 65 by 63 the second mosaic is cut out 6 columns to the right of
+# the first and 4 rows above it, the third 2 to the left and 6 below.
+prints_the_steps() { # NAME
+  local steps=$'1 3 -2\n2 -1 3'
+  "$room/planes" <compare/vectors/data/mosaics/board.pgm | cmp - <(
+    printf 'even rows, even columns: 33 by 32\n%s\n' "$steps"
+    printf 'even rows, odd columns: 32 by 32\n%s\n' "$steps"
+    printf 'odd rows, even columns: 33 by 31\n%s\n' "$steps"
+    printf 'odd rows, odd columns: 32 by 31\n%s\n' "$steps"
+  ) || { echo "$1: prints other planes or steps"; exit 1; }
+  echo "$1: prints the sizes and steps of the planes of three mosaics of a board, byte for byte"
+}
+
+# A file with an image that cannot be read, and one with an image of another size.
+planes_refuses() { # NAME
+  local said status=0
+  said=$(printf 'P5 1 1 255 aP5 1 1 255' | "$room/planes" 2>&1) || status=$?
+  [ "$status $said" = '1 the image at byte 12: refused 13' ] || { echo "$1: says $status $said of a file that cannot be read"; exit 1; }
+  status=0
+  said=$(printf 'P5 1 1 255 aP5 2 1 255 bc' | "$room/planes" 2>&1) || status=$?
+  [ "$status $said" = '1 the image at byte 12 is of another size' ] || { echo "$1: says $status $said of two sizes"; exit 1; }
+}
+
 # Calibration card D.
 prints_the_cut() { # NAME COMMAND...
   local name=$1 said
@@ -109,6 +132,15 @@ fi
 if at_hand examples/saved.c c++; then
   c++ -x c++ -std=c++17 "${flags[@]}" examples/saved.c -x none "$archive" -o "$room/saved"
   saves_in_one_form 'examples/saved.c as C++'
+fi
+if at_hand examples/planes.c cc; then
+  cc -std=c11 "${flags[@]}" examples/planes.c "$archive" -o "$room/planes"
+  prints_the_steps 'examples/planes.c as C'
+  planes_refuses 'examples/planes.c as C'
+fi
+if at_hand examples/planes.c c++; then
+  c++ -x c++ -std=c++17 "${flags[@]}" examples/planes.c -x none "$archive" -o "$room/planes"
+  prints_the_steps 'examples/planes.c as C++'
 fi
 if at_hand examples/cut.rs rustc; then
   rustc examples/cut.rs -L "${archive%/*}" -l static=mtb_c -o "$room/cut"

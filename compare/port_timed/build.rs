@@ -1,5 +1,5 @@
-//! Compiles what the port is timed beside and is not Rust: readers and a writer of greymaps in C
-//! where cc is at hand, and the calls of OpenCV's aligner where MTB_OPENCV says that OpenCV is.
+//! Compiles what the port is timed beside and is not Rust: the peers in C where cc is at hand, and
+//! the calls of OpenCV's aligner where MTB_OPENCV says that OpenCV is.
 
 use std::env;
 use std::process::{Command, Output};

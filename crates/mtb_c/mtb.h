@@ -1,5 +1,5 @@
 /*
- * mtb.h: image registration by median threshold bitmaps, every call proved. Version 4.0.0.
+ * mtb.h: image registration by median threshold bitmaps, every call proved. Version 4.1.0.
  *
  * Link libmtb_c.a, which `rt staticlib mtb_c` writes to target/staticlib (x86-64). docs/CALLS.md has each call in full.
  *
@@ -38,7 +38,7 @@
 extern "C" {
 #endif
 
-#define MTB_VERSION "4.0.0"
+#define MTB_VERSION "4.1.0"
 
 /* Limits. */
 #define MTB_MOST_SIDE 8192
@@ -153,6 +153,31 @@ uint32_t mtb_read_stack(const uint8_t *file, size_t file_length, size_t at,
    buffer that is too short. Writes file, length. */
 uint32_t mtb_write_pgm(const uint8_t *samples, size_t samples_length, size_t width, size_t height,
                        uint8_t *file, size_t file_length, size_t *length);
+
+/* ---- mosaics ---- */
+
+/* A colour sensor's mosaic has one sample a pixel, and its colours repeat every two columns and every two rows. Its four planes, numbered
+   and stored one after another: 0 has the even rows' even columns, 1 the even rows' odd columns, 2 the odd rows' even columns, 3 the odd
+   rows' odd columns. Columns and rows count from 0. Of an odd side there is one more even column or row, so planes may differ in size or be
+   empty; together they have width * height samples, each sample of the mosaic once. */
+#define MTB_EVEN_EVEN 0
+#define MTB_EVEN_ODD 1
+#define MTB_ODD_EVEN 2
+#define MTB_ODD_ODD 3
+
+/* Takes a mosaic apart: column u and row v of plane p are the mosaic's column 2u + p % 2 and row 2v + p / 2. mosaic and planes have
+   exactly width * height samples. Refused: 1; 2 for mosaic, planes. Writes planes. */
+uint32_t mtb_take_apart(const uint8_t *mosaic, size_t mosaic_length, size_t width, size_t height,
+                        uint8_t *planes, size_t planes_length);
+
+/* Puts a mosaic together from its planes: this undoes mtb_take_apart, and that undoes this. Refused: 1; 2 for mosaic, planes. Writes mosaic. */
+uint32_t mtb_put_together(const uint8_t *planes, size_t planes_length, size_t width, size_t height,
+                          uint8_t *mosaic, size_t mosaic_length);
+
+/* The four planes of a mosaic of this size, by number: planes + starts[p] is a frame of widths[p] by heights[p], in place, that every
+   other call takes. With even sides all four have one size, and the planes as they stand are a stack of four frames. In a plane a pixel is two
+   of the mosaic's: a shift (x, y) of a plane is (2x, 2y) of the mosaic. Refused: 1. Writes starts, widths, heights, four numbers each. */
+uint32_t mtb_planes(size_t width, size_t height, size_t starts[4], size_t widths[4], size_t heights[4]);
 
 /* ---- levels ---- */
 

@@ -11,6 +11,7 @@ pub mod bitmap;
 pub mod difference;
 pub mod geometry;
 pub mod gray;
+pub mod mosaic;
 pub mod pgm;
 pub mod refusals;
 pub mod report;

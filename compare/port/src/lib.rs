@@ -7,8 +7,8 @@
 //! the values of a refusal and, under 10, the needed scratch.
 //!
 //! What the calls take is named here, after the naive reading of the scope, so that
-//! a caller needs no other crate: frames, exposures, bitmaps and stacks, the lengths that
-//! they have, options, and the numbers of refusals and verdicts.
+//! a caller needs no other crate: frames, exposures, bitmaps, stacks and planes, the lengths
+//! that they have, options, and the numbers of refusals and verdicts.
 //!
 //! The exported functions ask nothing of their caller but that each pointer is good
 //! for its length and that outputs overlap nothing, which references see to. So the
@@ -18,6 +18,7 @@ pub mod counts;
 pub mod files;
 pub mod frames;
 pub mod levels;
+pub mod mosaic;
 pub mod moves;
 pub mod report;
 pub mod search;
@@ -27,6 +28,7 @@ pub use naive::bitmap::{Bitmap, words_needed, words_per_row};
 pub use naive::difference::Pair;
 pub use naive::geometry::Shift;
 pub use naive::gray::Frame;
+pub use naive::mosaic::{Plane, Planes};
 pub use naive::refusals;
 pub use naive::report::{ALONE, CONTESTED, RECORD_BYTES, REFERENCE, Rivalry, WEAK};
 pub use naive::shrink::Shrink;

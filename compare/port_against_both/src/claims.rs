@@ -42,6 +42,18 @@ const OVER: [(usize, usize); 11] = [
     (64, 1 << 63),
 ];
 
+/// Lengths of lists for a size over the limit: as long as the product says, if one can be so
+/// long, or as it says in fewer bits, none, and any.
+pub fn lengths_over(random: &mut Random, (width, height): (usize, usize)) -> Vec<usize> {
+    const MOST: usize = 1 << 18;
+    let [as_16, as_32] = [0xffff, 0xffff_ffff].map(|mask| (width & mask) * (height & mask));
+    let product = width.wrapping_mul(height);
+    let some = 1 + random.below(100);
+    let mut lengths = vec![product, as_16, as_32, 0, some];
+    lengths.retain(|&length| length <= MOST);
+    lengths
+}
+
 /// Width and height as claimed.
 #[derive(Clone, Copy)]
 pub struct Claim {

@@ -9,6 +9,7 @@ mod files;
 mod frames;
 mod lent;
 mod levels;
+mod mosaic;
 mod moves;
 mod parallel;
 mod percentiles;
@@ -22,10 +23,12 @@ use std::fmt::Debug;
 use std::process::ExitCode;
 
 use files::{headers, stacks, writes};
+use mosaic::planes;
 use naive::Refusal;
+use trials::inputs::SIZES_OVER;
 use trials::{Call, Outcome, call, same};
 
-const CALLS: [Call; 42] = [
+const CALLS: [Call; 49] = [
     call("from_rgb", 3000, frames::from_rgb),
     call("shrink2 average", 3000, frames::shrink2_average),
     call("shrink2 subsample", 3000, frames::shrink2_subsample),
@@ -63,7 +66,7 @@ const CALLS: [Call; 42] = [
     call("write_pgm", 4000, writes::frame),
     call("write_pgm sides", writes::SIZES, writes::sides),
     call("write_pgm digits", writes::EVERY_SIDE, writes::digits),
-    call("write_pgm over", 4 * writes::OVERS, writes::over),
+    call("write_pgm over", 4 * SIZES_OVER.len(), writes::over),
     call("write_pgm lengths", 1000, writes::lengths),
     call("write_pgm again", 1600, writes::again),
     call("write_pgm pairs", writes::PAIRS, writes::pair),
@@ -80,6 +83,13 @@ const CALLS: [Call; 42] = [
         2 * percentiles::PLACES,
         percentiles::places,
     ),
+    call("take_apart", 4000, mosaic::take_apart),
+    call("put_together", 4000, mosaic::put_together),
+    call("mosaic sizes", mosaic::SIZES, mosaic::sizes),
+    call("mosaic over", 4 * SIZES_OVER.len(), mosaic::over),
+    call("planes", mosaic::LAYOUTS, mosaic::layout),
+    call("planes of scenes", 1000, planes::scene),
+    call("planes moved", planes::MOVED, planes::moved),
 ];
 
 fn main() -> ExitCode {

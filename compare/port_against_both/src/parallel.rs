@@ -1,10 +1,11 @@
-//! Files written, read and reported at the same time on separate buffers: each gives what it
-//! gives alone.
+//! Files written, read and reported, and mosaics taken apart and put together, at the same time
+//! on separate buffers: each gives what it gives alone.
 
 use std::thread;
 
 use port::files::read_stack;
-use port::{Frame, Options, Rivalry};
+use port::mosaic::{layout, put_together, take_apart};
+use port::{Frame, Options, Planes, Rivalry};
 use trials::Outcome;
 use trials::frames::Frames;
 use trials::inputs::{ACROSS, Random};
@@ -16,7 +17,8 @@ const SIDE: usize = 64;
 const FRAMES: usize = ACROSS.len();
 const THREADS: u64 = 4;
 const TIMES: usize = 50;
-/// A file is written and read so often before it is reported, as either is short.
+/// A file is written and read, and its frames taken apart and put together, so often before it is
+/// reported, as each is short.
 const READINGS: usize = 100;
 
 const OPTIONS: Options = Options::USUAL;
@@ -60,6 +62,26 @@ fn reads(file: &[u8], frames: &Frames) -> bool {
     (status, next) == (0, file.len()) && as_lent && samples == frames.samples
 }
 
+/// What a frame, as a mosaic, is meant to be taken apart into, and how the planes lie.
+fn apart(frame: Frame) -> (Vec<u8>, Planes) {
+    let Frame { width, height, .. } = frame;
+    let area = width * height;
+    let planes = naive::mosaic::take_apart(frame.samples, width, height, area);
+    let layout = naive::mosaic::layout(width, height);
+    (planes.expect("a mosaic"), layout.expect("a size"))
+}
+
+/// Takes a mosaic apart and puts it together; says whether planes, layout and mosaic are what
+/// is meant.
+fn takes_apart(mosaic: Frame, meant: &(Vec<u8>, Planes)) -> bool {
+    let Frame { width, height, .. } = mosaic;
+    let [mut planes, mut back] = [(); 2].map(|()| vec![0; width * height]);
+    let there = take_apart(mosaic.samples, width, height, &mut planes);
+    let status = (there, put_together(&planes, width, height, &mut back));
+    let laid = layout(width, height) == Ok(meant.1);
+    status == (0, 0) && laid && planes == meant.0 && back == mosaic.samples
+}
+
 fn report_of(frames: &Frames) -> Result<Reported, u32> {
     reported(frames.stack(), &OPTIONS, &RIVALRY)
 }
@@ -73,8 +95,16 @@ pub fn run() -> Outcome {
     }
     let as_alone = |seed: u64, alone: &_| {
         let frames = noise(seed);
-        let file = file_of_all(&lent(&frames));
-        let kept = || (0..READINGS).all(|_| writes(&file, &frames) && reads(&file, &frames));
+        let lent = lent(&frames);
+        let file = file_of_all(&lent);
+        let meant: Vec<_> = lent.iter().map(|frame| apart(*frame)).collect();
+        let filed = || writes(&file, &frames) && reads(&file, &frames);
+        let taken = || {
+            lent.iter()
+                .zip(&meant)
+                .all(|(frame, meant)| takes_apart(*frame, meant))
+        };
+        let kept = || (0..READINGS).all(|_| filed() && taken());
         (0..TIMES).all(|_| kept() && report_of(&frames) == *alone)
     };
     let same = thread::scope(|scope| {
@@ -85,10 +115,11 @@ pub fn run() -> Outcome {
         started.into_iter().all(|t| t.join().expect("no panic"))
     });
     if !same {
-        return Err("a file or a report at the same time as others differs".into());
+        return Err("a file, a mosaic or a report at the same time as others differs".into());
     }
     let readings = TIMES * READINGS;
     print!("{THREADS} threads at the same time, ");
-    println!("{readings} files written and read and {TIMES} reports each, as alone");
+    print!("{readings} files written and read and their frames taken apart and put together, ");
+    println!("and {TIMES} reports each, as alone");
     Ok(())
 }

@@ -14,7 +14,7 @@ use port::report::{Report, report};
 use port::{
     Bitmap, Exposure, Frame, Options, Pair, RECORD_BYTES, Rivalry, Shift, Shrink, Stack, Values,
 };
-use port::{counts, files, frames, levels, moves, search};
+use port::{counts, files, frames, levels, mosaic, moves, search};
 use trials::Outcome;
 use trials::inputs::TOO_LONG;
 
@@ -55,8 +55,12 @@ impl Sealed {
         &mut self.list(1)[0]
     }
 
-    fn values(&self) -> &'static mut [usize; 5] {
-        self.list(5).try_into().expect("five of them")
+    fn array<const N: usize>(&self) -> &'static mut [usize; N] {
+        self.list(N).try_into().expect("as many of them")
+    }
+
+    fn values(&self) -> &'static mut Values {
+        self.array()
     }
 }
 
@@ -130,8 +134,12 @@ pub fn run() -> Outcome {
     };
 
     let write = |frame, room| files::write_pgm(frame, sealed.list(room), sealed.one());
+    let laid = |width, height| {
+        let lists = [(); 3].map(|()| sealed.array());
+        mosaic::planes(width, height, lists)
+    };
 
-    let calls: [(&str, u32, &dyn Fn() -> u32); 46] = [
+    let calls: [(&str, u32, &dyn Fn() -> u32); 56] = [
         ("from_rgb", SIDE_TOO_LONG, &|| {
             frames::from_rgb(&[], TOO_LONG, 0, sealed.list(0))
         }),
@@ -281,6 +289,32 @@ pub fn run() -> Outcome {
             write(frame, header + 15)
         }),
         ("write_pgm", WRONG_LENGTH, &|| write(frame, 0)),
+        ("take_apart", SIDE_TOO_LONG, &|| {
+            mosaic::take_apart(&samples[..1], TOO_LONG, 1, sealed.list(1))
+        }),
+        ("take_apart", SIDE_TOO_LONG, &|| {
+            mosaic::take_apart(&[], 0, TOO_LONG, sealed.list(0))
+        }),
+        ("take_apart", WRONG_LENGTH, &|| {
+            mosaic::take_apart(&samples[..15], 4, 4, sealed.list(16))
+        }),
+        ("take_apart", WRONG_LENGTH, &|| {
+            mosaic::take_apart(&samples[..16], 4, 4, sealed.list(17))
+        }),
+        ("put_together", SIDE_TOO_LONG, &|| {
+            mosaic::put_together(&[], TOO_LONG, 0, sealed.list(0))
+        }),
+        ("put_together", SIDE_TOO_LONG, &|| {
+            mosaic::put_together(&samples[..1], 1, TOO_LONG, sealed.list(1))
+        }),
+        ("put_together", WRONG_LENGTH, &|| {
+            mosaic::put_together(&samples[..17], 4, 4, sealed.list(16))
+        }),
+        ("put_together", WRONG_LENGTH, &|| {
+            mosaic::put_together(&samples[..16], 4, 4, sealed.list(15))
+        }),
+        ("planes", SIDE_TOO_LONG, &|| laid(TOO_LONG, 4)),
+        ("planes", SIDE_TOO_LONG, &|| laid(4, TOO_LONG)),
     ];
     print!("refused without a touch of an output:");
     for (call, number, made) in calls {

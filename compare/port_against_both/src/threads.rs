@@ -9,7 +9,7 @@ use port::{
     Bitmap, Exposure, Frame, Options, Pair, RECORD_BYTES, Rivalry, Scratch, Shift, Stack,
     words_per_row,
 };
-use port::{counts, files, frames, levels, moves, search};
+use port::{counts, files, frames, levels, mosaic, moves, search};
 use trials::inputs::Random;
 use trials::recount;
 use trials::{Outcome, same};
@@ -72,6 +72,25 @@ fn every_call(side: usize) -> Outcome {
     })?;
     let shift = Shift::new(5, -3);
     on_thread("shifted", || moves::shifted(reference, shift, &mut out))?;
+
+    on_thread("take_apart", || {
+        mosaic::take_apart(reference.samples, side, side, &mut out)
+    })?;
+    let planes = naive::mosaic::take_apart(reference.samples, side, side, area);
+    let (port, naive) = (&out, &planes.expect("a mosaic"));
+    same("take_apart on a thread", ("port", port), ("naive", naive))?;
+    let mut back = vec![0; area];
+    on_thread("put_together", || {
+        mosaic::put_together(&out, side, side, &mut back)
+    })?;
+    let (port, meant) = (&back[..], reference.samples);
+    same("put_together on a thread", ("port", port), ("meant", meant))?;
+    drop(back);
+    let mut lists = [[0; 4]; 3];
+    on_thread("planes", || mosaic::planes(side, side, lists.each_mut()))?;
+    let naive = naive::mosaic::layout(side, side).expect("a size");
+    let port = mosaic::by_name(lists);
+    same("planes on a thread", ("port", &port), ("naive", &naive))?;
 
     let whole = file_of(reference);
     let (mut file, mut length) = (vec![0; whole.len()], 0);

@@ -3,6 +3,7 @@
 use port::report::{Report, report};
 use port::search::align_stack;
 use port::{Options, RECORD_BYTES, Rivalry, Scratch, Stack};
+use trials::same;
 
 /// All that a report writes, its scratch apart.
 #[derive(PartialEq, Debug)]
@@ -45,12 +46,32 @@ pub fn reported(stack: Stack, options: &Options, rivalry: &Rivalry) -> Result<Re
 }
 
 /// The shifts of a stack, or the number of its refusal.
-pub fn stepped(stack: Stack, options: &Options) -> Result<Vec<i32>, u32> {
+fn stepped(stack: Stack, options: &Options) -> Result<Vec<i32>, u32> {
     let (mut bytes, mut words) = scratch(stack, options);
     let mut shifts = vec![0; 2 * stack.widths.len()];
     let scratch = (&mut bytes[..], &mut words[..]);
     match align_stack(stack, options, &mut shifts, scratch, &mut [0; 5]) {
         0 => Ok(shifts),
         refused => Err(refused),
+    }
+}
+
+/// A stack, by the name of where it comes from, has the shifts and the report of the same frames
+/// lent as they were made: answers with that report.
+pub fn as_lent(
+    input: &str,
+    (from, stack): (&str, Stack),
+    lent: Stack,
+    options: &Options,
+    rivalry: &Rivalry,
+) -> Result<Reported, String> {
+    let [stack, lent] = [stack, lent].map(|stack| {
+        let shifts = stepped(stack, options);
+        (shifts, reported(stack, options, rivalry))
+    });
+    same(input, (from, &stack), ("lent", &lent))?;
+    match lent {
+        (Ok(_), Ok(report)) => Ok(report),
+        refused => Err(format!("{input}: the frames are refused: {refused:?}")),
     }
 }

@@ -11,6 +11,8 @@ mod files;
 mod frames;
 mod inputs;
 mod levels;
+#[cfg(c_peer)]
+mod mosaic;
 mod moves;
 mod opencv;
 mod original;
@@ -66,8 +68,8 @@ impl Timed {
     /// What the port is timed beside.
     fn peer(&self) -> &'static str {
         let call = call_of(&self.call);
-        let is_on_files = ON_FILES.iter().any(|(name, ..)| call == Some(*name));
-        if is_on_files { "C peer" } else { "original" }
+        let in_c = beside_c().any(|(name, ..)| call == Some(*name));
+        if in_c { "C peer" } else { "original" }
     }
 
     fn is_case(&self, other: &Self) -> bool {
@@ -154,7 +156,7 @@ const CALLS_ON_ONE: [Call; 2] = [
 ];
 const ONE: Size = (640, 480);
 
-/// Calls on files, which the original lacks, on one kind of input.
+/// Calls on files and on mosaics, which the original lacks, on one kind of input each.
 #[cfg(c_peer)]
 const ON_FILES: [Call; 3] = [
     ("read_pgm", files::read_pgm, &[]),
@@ -163,22 +165,39 @@ const ON_FILES: [Call; 3] = [
 ];
 #[cfg(c_peer)]
 const FILE_SIZES: [Size; 4] = files::SIZES;
+#[cfg(c_peer)]
+const ON_MOSAICS: [Call; 2] = [
+    ("take_apart", mosaic::take_apart, &[]),
+    ("put_together", mosaic::put_together, &[]),
+];
+#[cfg(c_peer)]
+const MOSAIC_SIZES: [Size; 8] = mosaic::SIZES;
 /// What the head of the output says of them.
 #[cfg(c_peer)]
-const FILES_SAID: &str = "The original has no files: read_pgm, read_stack and write_pgm are timed
+const PEER_SAID: &str = "The original has no files: read_pgm, read_stack and write_pgm are timed
 beside a peer in C at -O2, which has sscanf for a plain header, a loop over the bytes for one
-with a comment, sscanf and memcpy for a stack, and sprintf and memcpy to write.";
+with a comment, sscanf and memcpy for a stack, and sprintf and memcpy to write. Nor has it
+mosaics: take_apart and put_together are timed beside a loop by pixel in C at -O2.";
 
 #[cfg(not(c_peer))]
 const ON_FILES: [Call; 0] = [];
 #[cfg(not(c_peer))]
 const FILE_SIZES: [Size; 0] = [];
 #[cfg(not(c_peer))]
-const FILES_SAID: &str =
-    "There is no cc for a peer in C, so read_pgm, read_stack and write_pgm are left out.";
+const ON_MOSAICS: [Call; 0] = [];
+#[cfg(not(c_peer))]
+const MOSAIC_SIZES: [Size; 0] = [];
+#[cfg(not(c_peer))]
+const PEER_SAID: &str = "There is no cc for a peer in C, so read_pgm, read_stack, write_pgm,
+take_apart and put_together are left out.";
+
+/// Those that are timed beside a peer in C.
+fn beside_c() -> impl Iterator<Item = &'static Call> {
+    ON_FILES.iter().chain(&ON_MOSAICS)
+}
 
 fn calls() -> impl Iterator<Item = &'static Call> {
-    CALLS.iter().chain(&CALLS_ON_ONE).chain(&ON_FILES)
+    CALLS.iter().chain(&CALLS_ON_ONE).chain(beside_c())
 }
 
 /// The call that a table is of: one whose name is the table's or its first word, or that
@@ -243,7 +262,7 @@ take turns, of fewer where a report takes long, of more where frames are only co
 Both are built for release without overflow checks and called by C's convention, never
 inlined. The original allocates its answer in every call and frees it, the port writes
 to buffers made before. {}
-{FILES_SAID}
+{PEER_SAID}
 The ratio is original, or peer, to port; `<` marks one below the goal.
 Packing alone is compute_bitmaps less threshold on the port's side, and the whole of
 compute_bitmaps on the original's. Percentile 50, tolerance 4.
@@ -294,19 +313,25 @@ fn least_of(passes: usize, named: &[String]) -> Vec<Timed> {
 /// The calls on their inputs, always in the same order.
 fn pass(is_timed: impl Fn(&Call) -> bool) -> Vec<Timed> {
     let mut all = Vec::new();
-    let mut time = |calls: &[Call], input: &Input| {
-        for call in calls.iter().filter(|call| is_timed(call)) {
-            all.extend(call.1(input));
+    let mut time = |calls: &[Call], size: Size, kind: Kind| {
+        let mut timed = calls.iter().filter(|call| is_timed(call)).peekable();
+        // A large input takes its time to make.
+        if timed.peek().is_some() {
+            let input = Input::new(size, kind);
+            all.extend(timed.flat_map(|call| call.1(&input)));
         }
     };
     for size in SIZES {
         for kind in Kind::ALL {
-            time(&CALLS, &Input::new(size, kind));
+            time(&CALLS, size, kind);
         }
     }
-    time(&CALLS_ON_ONE, &Input::new(ONE, Kind::Noise));
+    time(&CALLS_ON_ONE, ONE, Kind::Noise);
     for size in FILE_SIZES {
-        time(&ON_FILES, &Input::new(size, Kind::Flat));
+        time(&ON_FILES, size, Kind::Flat);
+    }
+    for size in MOSAIC_SIZES {
+        time(&ON_MOSAICS, size, Kind::Noise);
     }
     all
 }

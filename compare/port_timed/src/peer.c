@@ -1,4 +1,5 @@
-/* What a C programmer would write in place of the port's readers and its writer of greymaps, to time them beside. */
+/* What a C programmer would write in place of the port's readers and its writer of greymaps, and to take a mosaic apart and put it together, to
+   time them beside. */
 
 #include <stddef.h>
 #include <stdint.h>
@@ -12,6 +13,8 @@ uint32_t peer_scan(const uint8_t *file, size_t image[4]);
 uint32_t peer_scan_bytes(const uint8_t *file, size_t file_length, size_t image[4]);
 uint32_t peer_scan_stack(const uint8_t *file, size_t count, size_t *widths, size_t *heights, uint8_t *samples, size_t *next);
 uint32_t peer_print(const uint8_t *samples, size_t width, size_t height, uint8_t *file, size_t file_length, size_t *length);
+void peer_take_apart(const uint8_t *mosaic, size_t width, size_t height, uint8_t *planes);
+void peer_put_together(const uint8_t *planes, size_t width, size_t height, uint8_t *mosaic);
 
 static uint32_t answer(size_t image[4], size_t highest, size_t header) {
     image[SAMPLES] = header;
@@ -93,4 +96,29 @@ uint32_t peer_print(const uint8_t *samples, size_t width, size_t height, uint8_t
     memcpy(file + header_length, samples, width * height);
     *length = header_length + width * height;
     return 0;
+}
+
+/* Where the planes have the sample in column x of row y. */
+static inline size_t place(size_t width, size_t height, size_t x, size_t y) {
+    size_t even_columns = (width + 1) / 2, even_rows = (height + 1) / 2;
+    size_t plane_width = x % 2 == 0 ? even_columns : width / 2, plane_height = y % 2 == 0 ? even_rows : height / 2;
+    size_t rows_before = y % 2 == 0 ? 0 : even_rows * width, columns_before = x % 2 == 0 ? 0 : plane_height * even_columns;
+    return rows_before + columns_before + y / 2 * plane_width + x / 2;
+}
+
+/* Pixel by pixel of the mosaic, both lists as long as its size says. */
+void peer_take_apart(const uint8_t *mosaic, size_t width, size_t height, uint8_t *planes) {
+    for (size_t y = 0; y < height; y++) {
+        for (size_t x = 0; x < width; x++) {
+            planes[place(width, height, x, y)] = mosaic[y * width + x];
+        }
+    }
+}
+
+void peer_put_together(const uint8_t *planes, size_t width, size_t height, uint8_t *mosaic) {
+    for (size_t y = 0; y < height; y++) {
+        for (size_t x = 0; x < width; x++) {
+            mosaic[y * width + x] = planes[place(width, height, x, y)];
+        }
+    }
 }

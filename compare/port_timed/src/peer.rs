@@ -1,4 +1,5 @@
-//! Readers and a writer of greymaps in C, which `peer.c` has. Each gives a status back.
+//! Readers and a writer of greymaps, and mosaics taken apart and put together, in C, which `peer.c`
+//! has. Each gives a status back.
 
 use port::Frame;
 
@@ -21,6 +22,8 @@ unsafe extern "C" {
         file_length: usize,
         length: *mut usize,
     ) -> u32;
+    fn peer_take_apart(mosaic: *const u8, width: usize, height: usize, planes: *mut u8);
+    fn peer_put_together(planes: *const u8, width: usize, height: usize, mosaic: *mut u8);
 }
 
 /// The image at the front of a file whose first sample is 0, by sscanf: width, height, where
@@ -66,4 +69,16 @@ pub fn print(frame: Frame, file: &mut [u8], length: &mut usize) -> u32 {
             length,
         )
     }
+}
+
+/// The planes of a mosaic, pixel by pixel. Both lists are as long as the size says.
+pub fn take_apart(mosaic: &[u8], width: usize, height: usize, planes: &mut [u8]) -> u32 {
+    unsafe { peer_take_apart(mosaic.as_ptr(), width, height, planes.as_mut_ptr()) };
+    0
+}
+
+/// The mosaic of planes, pixel by pixel. Both lists are as long as the size says.
+pub fn put_together(planes: &[u8], width: usize, height: usize, mosaic: &mut [u8]) -> u32 {
+    unsafe { peer_put_together(planes.as_ptr(), width, height, mosaic.as_mut_ptr()) };
+    0
 }

@@ -60,6 +60,31 @@ pub const EDGE_HEIGHTS: [usize; 3] = [0, 1, 2];
 pub const TOO_LONG: usize = LONGEST_SIDE + 1;
 pub const SIDES_OVER: [usize; 3] = [TOO_LONG, 1 << 32, usize::MAX];
 
+/// Sizes over the limit, by one side or both. Some are within it in 16 or 32 bits; of others the
+/// product is small in 32 or 64 bits.
+pub const SIZES_OVER: [(usize, usize); 20] = [
+    (TOO_LONG, 0),
+    (0, TOO_LONG),
+    (TOO_LONG, 1),
+    (1, TOO_LONG),
+    (TOO_LONG, TOO_LONG),
+    (10_000, 2),
+    (2, 99_999),
+    ((1 << 16) + 3, 2),
+    (3, (1 << 16) + 2),
+    ((1 << 32) + 3, 2),
+    (3, (1 << 32) + 2),
+    (1 << 32, 1 << 32),
+    ((1 << 32) + 1, (1 << 32) - 1),
+    ((1 << 63) + 3, 2),
+    (6, (1 << 63) + 1),
+    (1 << 63, 0),
+    (0, usize::MAX),
+    (usize::MAX, 1),
+    (usize::MAX, usize::MAX),
+    (usize::MAX - 2, usize::MAX - 1),
+];
+
 pub fn size(random: &mut Random, most_height: usize) -> (usize, usize) {
     let width = match random.one_in(2) {
         true => random.pick(&EDGE_WIDTHS),

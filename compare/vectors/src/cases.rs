@@ -190,6 +190,22 @@ pub fn sizes_and_longest(random: &mut Random) -> Vec<Size> {
     sizes
 }
 
+/// Sizes over the limit, some within it in 32 bits, and of some the product small in 64 bits: each
+/// with how many samples the product then says, or a few.
+pub const SIZES_OVER: [(Size, usize); 11] = [
+    ((TOO_LONG, 0), 0),
+    ((0, TOO_LONG), 0),
+    ((TOO_LONG, TOO_LONG), 0),
+    (((1 << 32) + 3, 2), 6),
+    ((3, (1 << 32) + 2), 6),
+    ((1 << 32, 1 << 32), 0),
+    (((1 << 63) + 3, 2), 6),
+    ((6, (1 << 63) + 1), 6),
+    ((usize::MAX, 0), 0),
+    ((1, usize::MAX), 1),
+    ((usize::MAX, usize::MAX), 1),
+];
+
 /// Frames of one scene; at the limit a row of one digit a sample, which keeps the
 /// line short, and the same row moved a little.
 pub fn frames(random: &mut Random, (width, height): Size, count: usize) -> Vec<Vec<u8>> {

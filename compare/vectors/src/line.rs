@@ -7,6 +7,7 @@ use naive::align::{Exposure, Options, Scratch, Stack, Step};
 use naive::difference::Counts;
 use naive::geometry::{Crop, Shift};
 use naive::gray::Frame;
+use naive::mosaic::Planes;
 use naive::pgm::{Image, Laid};
 use naive::refusals::RECORD_SPACE_TOO_SHORT;
 use naive::report::{Record, Report};
@@ -184,6 +185,15 @@ impl Output for Laid {
             .list(&self.heights)
             .list(&self.samples)
             .number(self.next)
+    }
+}
+
+impl Output for Planes {
+    fn write(&self, line: Line) -> Line {
+        let planes = self.in_order();
+        line.list(&planes.map(|plane| plane.start))
+            .list(&planes.map(|plane| plane.width))
+            .list(&planes.map(|plane| plane.height))
     }
 }
 

@@ -7,11 +7,13 @@ mod cases;
 mod images;
 mod line;
 mod matches;
+mod mosaics;
 mod neighbours;
 mod netpbm;
 mod pgm;
 mod pgm_stacks;
 mod pgm_writes;
+mod planes;
 mod programs;
 mod reports;
 mod shifts;
@@ -33,7 +35,7 @@ const SEED: u64 = 20_030_602;
 
 /// A file's name and the lines of its call. `crates/try_vectors` knows a call by its
 /// place here, from 1 on.
-type Calls = [(&'static str, fn(&mut Random) -> Vec<String>); 21];
+type Calls = [(&'static str, fn(&mut Random) -> Vec<String>); 24];
 
 const CALLS: Calls = [
     ("from_rgb", images::from_rgb),
@@ -57,6 +59,9 @@ const CALLS: Calls = [
     ("read_pgm", pgm::read_pgm),
     ("read_stack", pgm_stacks::read_stack),
     ("write_pgm", pgm_writes::write_pgm),
+    ("take_apart", mosaics::take_apart),
+    ("put_together", mosaics::put_together),
+    ("planes", mosaics::planes),
 ];
 
 type Files = BTreeMap<PathBuf, Vec<u8>>;
@@ -74,7 +79,7 @@ fn replayed(files: &Files) -> Files {
         }
     }
     let mut inputs = BTreeMap::new();
-    let room = 4 * 512 * 1024;
+    let room = 6 * 512 * 1024;
     insert(
         &mut inputs,
         "try_vectors",
@@ -161,6 +166,14 @@ fn bracket_input(files: &Files) -> Files {
     inputs
 }
 
+/// The same for the program that aligns the planes of two mosaics.
+fn planes_input() -> Files {
+    let (input, output) = planes::input_and_output(&mut Random::new(SEED));
+    let mut inputs = BTreeMap::new();
+    insert(&mut inputs, "try_mosaic", input.len() + 1, input, output);
+    inputs
+}
+
 /// All files by their path below the data folder, and the number of cases in them.
 fn made() -> (Files, usize) {
     let mut files = BTreeMap::new();
@@ -186,6 +199,9 @@ fn made() -> (Files, usize) {
         cases += 1;
         files.insert(Path::new("netpbm").join(name), bytes.to_vec());
     }
+    cases += 1;
+    let board = planes::file(&mut Random::new(SEED));
+    files.insert(Path::new("mosaics").join("board.pgm"), board);
     (files, cases)
 }
 
@@ -219,8 +235,9 @@ fn run(check: bool) -> io::Result<bool> {
     let mut inputs = replayed(&files);
     inputs.extend(stacksteps_inputs(&files));
     inputs.extend(bracket_input(&files));
+    inputs.extend(planes_input());
     if !check {
-        for inner in ["stacksteps", "netpbm"] {
+        for inner in ["stacksteps", "netpbm", "mosaics"] {
             fs::create_dir_all(folder.join(inner))?;
         }
         write(&folder, &files)?;

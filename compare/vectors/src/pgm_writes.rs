@@ -2,9 +2,9 @@
 
 use naive::pgm;
 use naive::refusals::{LONGEST_SIDE, SIDE_TOO_LONG, WRONG_LENGTH};
-use trials::inputs::{Random, TOO_LONG};
+use trials::inputs::Random;
 
-use crate::cases::{Break, Case, Size, accepted, refused, stated};
+use crate::cases::{Break, Case, SIZES_OVER, Size, accepted, refused, stated};
 use crate::images::Image;
 use crate::line::Answered;
 
@@ -97,23 +97,10 @@ fn wrong_samples(random: &mut Random) -> Vec<(u32, Image<Writing>)> {
     cases
 }
 
-/// Sides over the limit, some within it in 32 bits, and of some the product small in 64 bits:
-/// with as many samples as the product then says, and in a buffer that would do, or not.
+/// Sides over the limit, in a buffer that would do, or not.
 fn sides_over(random: &mut Random) -> Vec<(u32, Image<Writing>)> {
     let mut cases = Vec::new();
-    for (size, length) in [
-        ((TOO_LONG, 0), 0),
-        ((0, TOO_LONG), 0),
-        ((TOO_LONG, TOO_LONG), 0),
-        (((1 << 32) + 3, 2), 6),
-        ((3, (1 << 32) + 2), 6),
-        ((1 << 32, 1 << 32), 0),
-        (((1 << 63) + 3, 2), 6),
-        ((6, (1 << 63) + 1), 6),
-        ((usize::MAX, 0), 0),
-        ((1, usize::MAX), 1),
-        ((usize::MAX, usize::MAX), 1),
-    ] {
+    for (size, length) in SIZES_OVER {
         let mut case = writing(random.bytes(length), size, 0);
         for room in [case.rooms[0], 100, 0] {
             case.rooms[0] = room;

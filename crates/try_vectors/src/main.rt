@@ -7,6 +7,7 @@ mod difference;
 mod files;
 mod geometry;
 mod gray;
+mod mosaics;
 mod report;
 mod shrink;
 mod threshold;
@@ -78,7 +79,7 @@ fn on_stack(numbers: &[u64], call: usize, samples: &[u8]) -> bool {
     )
 }
 
-// A call on samples or a file, which are loaded. A frame that a call writes is lent marked, and longer than it may need; the case cuts it as the
+// A call on samples, a mosaic or a file, which are loaded. A frame that a call writes is lent marked, and longer than it may need; the case cuts it as the
 // line says.
 fn on_loaded(numbers: &[u64], call: usize, samples: &[u8]) -> bool {
     let mut out = [MARK; SAMPLES];
@@ -94,6 +95,8 @@ fn on_loaded(numbers: &[u64], call: usize, samples: &[u8]) -> bool {
         19 => files::read_pgm(numbers, samples),
         20 => files::read_stack(numbers, samples, &mut out),
         21 => files::write_pgm(numbers, samples, &mut out),
+        22 => mosaics::take_apart(numbers, samples, &mut out),
+        23 => mosaics::put_together(numbers, samples, &mut out),
         _ => on_stack(numbers, call, samples),
     }
 }
@@ -132,12 +135,13 @@ fn agrees(numbers: &[u64]) -> bool {
     let call = at(numbers, 0);
     let asked = rest(numbers, 1);
     match call {
-        1..=7 | 16..=21 => on_samples(asked, call),
+        1..=7 | 16..=23 => on_samples(asked, call),
         8..=11 => on_bitmap(asked, call),
         12 => difference::disagreement(asked),
         13 => geometry::doubled(asked),
         14 => geometry::offset(asked),
         15 => geometry::common_crop(asked),
+        24 => mosaics::planes(asked),
         _ => false,
     }
 }

@@ -17,7 +17,7 @@ use super::{answers, past, shown};
 use crate::agreed;
 use crate::lent::Lent;
 use crate::search::wrong;
-use crate::whole::{reported, stepped};
+use crate::whole::as_lent;
 
 /// What a caller passes: a file, the place of the first image, and the lengths of the lists.
 #[derive(Clone, Copy)]
@@ -281,12 +281,6 @@ pub fn bracket(random: &mut Random, _: usize) -> Outcome {
         percentiles: &made.percentiles,
         reference: made.reference,
     };
-    let [read, lent] = [read, made.stack()].map(|stack| {
-        let shifts = stepped(stack, &options);
-        (shifts, reported(stack, &options, &rivalry))
-    });
-    if lent.0.is_err() || lent.1.is_err() {
-        return Err(format!("{input}: the frames are refused: {lent:?}"));
-    }
-    same(input, ("read", &read), ("lent", &lent))
+    _ = as_lent(&input, ("read", read), made.stack(), &options, &rivalry)?;
+    Ok(())
 }

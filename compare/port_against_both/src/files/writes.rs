@@ -4,14 +4,14 @@ use ::port::{Frame, files as port};
 use naive::Refusal;
 use naive::pgm::{Image, Laid, write};
 use naive::refusals::{LONGEST_SIDE, MOST_FRAMES, SIDE_TOO_LONG, WRONG_LENGTH};
-use trials::inputs::{Random, TOO_LONG};
+use trials::inputs::{Random, SIZES_OVER};
 use trials::pgm::{file, size};
 use trials::{Outcome, same};
 
 use super::stacks::{Asked, lays, one_off};
 use super::{answers, shown};
 use crate::agreed;
-use crate::claims::Claim;
+use crate::claims::{Claim, lengths_over};
 use crate::lent::Lent;
 
 /// A file, or the number of a refusal.
@@ -128,44 +128,11 @@ pub fn digits(random: &mut Random, case: usize) -> Outcome {
     Ok(())
 }
 
-/// Sides over the limit, alone and both. Some are within it in 16 or 32 bits; of others the
-/// product is small in 32 or 64 bits.
-const OVER: [(usize, usize); 20] = [
-    (TOO_LONG, 0),
-    (0, TOO_LONG),
-    (TOO_LONG, 1),
-    (1, TOO_LONG),
-    (TOO_LONG, TOO_LONG),
-    (10_000, 2),
-    (2, 99_999),
-    ((1 << 16) + 3, 2),
-    (3, (1 << 16) + 2),
-    ((1 << 32) + 3, 2),
-    (3, (1 << 32) + 2),
-    (1 << 32, 1 << 32),
-    ((1 << 32) + 1, (1 << 32) - 1),
-    ((1 << 63) + 3, 2),
-    (6, (1 << 63) + 1),
-    (1 << 63, 0),
-    (0, usize::MAX),
-    (usize::MAX, 1),
-    (usize::MAX, usize::MAX),
-    (usize::MAX - 2, usize::MAX - 1),
-];
-pub const OVERS: usize = OVER.len();
-
 /// A side over the limit: with as many samples as the product says, if there can be so many, or
 /// as it says in fewer bits, or any; each with a buffer that is exact, longer, short and empty.
 pub fn over(random: &mut Random, case: usize) -> Outcome {
-    const MOST: usize = 1 << 18;
-    let (width, height) = OVER[case % OVERS];
-    let [as_16, as_32] = [0xffff, 0xffff_ffff].map(|mask| (width & mask) * (height & mask));
-    let product = width.wrapping_mul(height);
-    let some = 1 + random.below(100);
-    for length in [product, as_16, as_32, 0, some] {
-        if length > MOST {
-            continue;
-        }
+    let (width, height) = SIZES_OVER[case % SIZES_OVER.len()];
+    for length in lengths_over(random, (width, height)) {
         let samples = random.bytes(length);
         let frame = Frame::new(&samples, width, height);
         let need = file_of(frame).len();
