@@ -9,7 +9,8 @@ static void accepted(uint32_t status, const char *what, size_t number) {
 }
 
 int main(void) {
-    static const char *const names[] = {"even rows, even columns", "even rows, odd columns", "odd rows, even columns", "odd rows, odd columns"};
+    static const struct { size_t number; const char *name; } planes[] = {{MTB_EVEN_EVEN, "even rows, even columns"}, {MTB_EVEN_ODD, "even rows, odd columns"},
+                                                                         {MTB_ODD_EVEN, "odd rows, even columns"}, {MTB_ODD_ODD, "odd rows, odd columns"}};
     size_t length, width = 0, height = 0, mosaics = 0;
     uint8_t *file = standard_input(&length);
     uint8_t *apart = (uint8_t *)room(length); /* the planes of one mosaic after another take no more than the file */
@@ -24,12 +25,13 @@ int main(void) {
 
     size_t starts[4], widths[4], heights[4], bytes_needed, words_needed, values[5];
     accepted(mtb_planes(width, height, starts, widths, heights), "planes of the image at byte", 0);
-    /* The first plane is the largest, and a scratch may be longer than needed. */
-    accepted(mtb_scratch(widths[0], heights[0], MTB_BITS, &bytes_needed, &words_needed), "scratch of plane", 0);
+    /* This plane is the largest, and a scratch may be longer than needed. */
+    accepted(mtb_scratch(widths[MTB_EVEN_EVEN], heights[MTB_EVEN_EVEN], MTB_BITS, &bytes_needed, &words_needed), "scratch of plane", MTB_EVEN_EVEN);
     uint8_t *bytes = (uint8_t *)room(bytes_needed);
     uint64_t *words = (uint64_t *)room(8 * words_needed);
-    for (size_t p = 0; p < 4; p++) {
-        printf("%s: %zu by %zu\n", names[p], widths[p], heights[p]);
+    for (size_t i = 0; i < 4; i++) {
+        size_t p = planes[i].number;
+        printf("%s: %zu by %zu\n", planes[i].name, widths[p], heights[p]);
         /* A plane is a frame where it stands. */
         const uint8_t *first = apart + starts[p];
         size_t samples = widths[p] * heights[p];
