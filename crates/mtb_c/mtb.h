@@ -174,9 +174,10 @@ uint32_t mtb_take_apart(const uint8_t *mosaic, size_t mosaic_length, size_t widt
 uint32_t mtb_put_together(const uint8_t *planes, size_t planes_length, size_t width, size_t height,
                           uint8_t *mosaic, size_t mosaic_length);
 
-/* The four planes of a mosaic of this size, by number: planes + starts[p] is a frame of widths[p] by heights[p], in place, that every
-   other call takes. With even sides all four have one size, and the planes as they stand are a stack of four frames. In a plane a pixel is two
-   of the mosaic's: a shift (x, y) of a plane is (2x, 2y) of the mosaic. Refused: 1. Writes starts, widths, heights, four numbers each. */
+/* The four planes of a mosaic of this size, by number: planes + starts[p] is a frame of widths[p] by heights[p], in place, for every call
+   that takes frames. With even sides all four have one size, and the planes as they stand are a stack of four frames. Pixels next to each
+   other in a plane lie two apart in the mosaic: a shift (x, y) of a plane is (2x, 2y) of the mosaic. Refused: 1. Writes starts, widths,
+   heights, four numbers each. */
 uint32_t mtb_planes(size_t width, size_t height, size_t starts[4], size_t widths[4], size_t heights[4]);
 
 /* ---- levels ---- */
