@@ -82,8 +82,8 @@ saves_up_to() { # NAME
   printf 'P5\n1 1\n255\na' | cmp - "$room/front" || { echo "$1: does not save what stands before an image that cannot be read"; exit 1; }
 }
 
-# Each plane's size, and its steps, which are half of the mosaics': of a board of 65 by 63 the second mosaic is cut out 6 columns to the right of
-# the first and 4 rows above it, the third 2 to the left and 6 below.
+# Each plane's size, and its steps, which are half of the mosaics': of three of 65 by 63 that are cut out of one board, the second lies 6 columns to
+# the right of the first and 4 rows above it, the third 2 to the left and 6 below.
 prints_the_steps() { # NAME
   local steps=$'1 3 -2\n2 -1 3'
   "$room/planes" <compare/vectors/data/mosaics/board.pgm | cmp - <(

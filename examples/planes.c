@@ -1,6 +1,6 @@
-/* How far each plane of a colour sensor's mosaics has moved: planes < MOSAICS.pgm. The mosaics are the images of the file, all of one size. Prints
-   for each of the four planes a line with its rows, columns and size, and then one for each mosaic behind the first: its number, and the step that
-   lays its plane on that of the first. A plane's step is half of the mosaic's. */
+/* How far the planes of a colour sensor's mosaics have to move to sit on those of the first: planes < MOSAICS.pgm. The mosaics are the images of the
+   file, all of one size. Prints for each of the four planes a line with its rows, columns and size, and then one for each mosaic behind the first: its
+   number, and the step of its plane, right and down. A plane's step is half of the mosaic's. */
 #include "input.h"
 #include "mtb.h"
 

@@ -32,14 +32,14 @@ module _ {s old new : List ℕ} {from i j k : ℕ} (q : Taken s from i j old new
         are = both-more old i j (second s from) (second s (from + 1)) k l (q .are) a (b ∙ ap (λ (m : ℕ). getD s m 0) right);
       }
 
-  -- a row of even columns has as many odd ones
+  -- a row of even width has as many odd columns as even ones
   pub taken-even : (width : ℕ) → width % 2 ≡ 0 → k ≡ width / 2 → new ≡ both old i j (everySecond s ((width + 1) / 2) from) (everySecond s (width / 2) (from + 1))
   taken-even width e p =
       let left : k ≡ (width + 1) / 2 = omega arith in
       let right : k ≡ width / 2 = omega arith in
       q .are ∙ ap₂ (λ (m n : ℕ). both old i j (everySecond s m from) (everySecond s n (from + 1))) left right
 
-  -- and one of odd width ends with an even one more
+  -- and one of odd width ends with one even column more
   pub taken-odd : (width : ℕ) {v : ℕ} → width % 2 ≡ 1 → k ≡ width / 2 → i + k < j → v ≡ getD s (from + 2 * k) 0
       → set new (i + k) v ≡ both old i j (everySecond s ((width + 1) / 2) from) (everySecond s (width / 2) (from + 1))
   taken-odd width {v} e p l a =

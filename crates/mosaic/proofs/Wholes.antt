@@ -1,5 +1,5 @@
 -- What the loops over the rows have stored: every pixel of the rows so far at its place, and whole lists in the end.
-use Prim.Native.Nat.{ℕ, zero, suc, _+_, _-_, _*_, _/_, _%_, _<_, _≤_}
+use Prim.Native.Nat.{ℕ, zero, suc, _+_, _-_, _*_, _/_, _<_, _≤_}
 use native.Mathlib.Nat.{not-suc-le-zero}
 use native.Mathlib.Omega.{arith}
 use mathlib.Core.Path.{_≡_, refl, sym, ap, ap₂, subst, _∙_}
@@ -8,11 +8,11 @@ use mathlib.Core.Logic.{⊎-elim}
 use lib.ListN.{length, getD, set, length-set}
 use lib.Seq.{sets, length-sets, getD-set-same, getD-set-other}
 use Rattle.definitions.specs.Build.{build, joined, sample}
-use Rattle.laws.specs.general.Cases.{lt-or-le, eq-or-ne}
+use Rattle.laws.specs.general.Cases.{lt-or-le}
 use Rattle.laws.specs.general.Lists.{build-length, build-at, build-same}
 use Rattle.laws.specs.general.Writes.{sets-whole, rows-none, rows-more, getD-before}
 use Rattle.mosaic_format.specs.Mosaic.{apart, placeOf, together}
-use Rattle.mosaic_format.specs.Halves.{even-half, odd-half}
+use Rattle.mosaic_format.specs.Halves.{even-half, odd-half, by-parity}
 use Rattle.mosaic_format.specs.Places.{once}
 use Rattle.mosaic_format.specs.Planes.{apart-length, found}
 use Rattle.mosaic_format.specs.Undone.{same-places, together-length}
@@ -96,12 +96,7 @@ module _ (w h : ℕ) (s : List ℕ) where
         ∙ ap (λ (j : ℕ). getD s j 0) here
 
     row-stands : (x : ℕ) → x < w → getD second (placeOf w h x y) 0 ≡ sample s w x y
-    row-stands x a = ⊎-elim
-        (λ (e : x % 2 ≡ 0). let d : 2 * (x / 2) ≡ x = omega arith in subst (λ (u : ℕ). getD second (placeOf w h u y) 0 ≡ sample s w u y) d (even-stands (x / 2) (omega arith)))
-        (λ (n : x % 2 ≡ 0 → ⊥).
-        let d : 2 * (x / 2) + 1 ≡ x = omega arith in
-        subst (λ (u : ℕ). getD second (placeOf w h u y) 0 ≡ sample s w u y) d (odd-stands (x / 2) (omega arith)))
-        (eq-or-ne (x % 2) 0)
+    row-stands = by-parity (λ (x : ℕ). x < w → getD second (placeOf w h x y) 0 ≡ sample s w x y) even-stands odd-stands
 
     -- the pixels of earlier rows, whose places are none of the row's
     kept : (x v : ℕ) → x < w → v < y → getD second (placeOf w h x v) 0 ≡ getD old (placeOf w h x v) 0
@@ -150,16 +145,9 @@ module _ (w h : ℕ) (planes : List ℕ) where
   woven-row y = build-same w (woven planes (placeOf w h 0 y) (placeOf w h 1 y)) (λ (x : ℕ). getD planes (placeOf w h x y) 0) at
     where
       at : (x : ℕ) → x < w → woven planes (placeOf w h 0 y) (placeOf w h 1 y) x ≡ getD planes (placeOf w h x y) 0
-      at x a = ⊎-elim
-          (λ (e : x % 2 ≡ 0).
-          let d : 2 * (x / 2) ≡ x = omega arith in
-          subst (λ (u : ℕ). woven planes (placeOf w h 0 y) (placeOf w h 1 y) u ≡ getD planes (placeOf w h u y) 0) d
-          (sym (woven-even planes (placeOf w h 0 y) (placeOf w h 1 y) (x / 2)) ∙ ap (λ (j : ℕ). getD planes j 0) (sym (even-place w h y (x / 2)))))
-          (λ (n : x % 2 ≡ 0 → ⊥).
-          let d : 2 * (x / 2) + 1 ≡ x = omega arith in
-          subst (λ (u : ℕ). woven planes (placeOf w h 0 y) (placeOf w h 1 y) u ≡ getD planes (placeOf w h u y) 0) d
-          (sym (woven-odd planes (placeOf w h 0 y) (placeOf w h 1 y) (x / 2)) ∙ ap (λ (j : ℕ). getD planes j 0) (sym (odd-place w h y (x / 2)))))
-          (eq-or-ne (x % 2) 0)
+      at = by-parity (λ (x : ℕ). x < w → woven planes (placeOf w h 0 y) (placeOf w h 1 y) x ≡ getD planes (placeOf w h x y) 0)
+          (λ k _. sym (woven-even planes (placeOf w h 0 y) (placeOf w h 1 y) k) ∙ ap (λ (j : ℕ). getD planes j 0) (sym (even-place w h y k)))
+          (λ k _. sym (woven-odd planes (placeOf w h 0 y) (placeOf w h 1 y) k) ∙ ap (λ (j : ℕ). getD planes j 0) (sym (odd-place w h y k)))
 
   pub one-together : {old mid new : List ℕ} {y i j : ℕ} → Together old mid y → i ≡ placeOf w h 0 y → j ≡ placeOf w h 1 y
       → new ≡ sets mid (y * w) (build w (woven planes i j)) → Together old new (y + 1)

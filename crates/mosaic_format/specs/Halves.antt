@@ -1,6 +1,6 @@
 -- The columns or rows of one parity: how many they are, and which pixel of the mosaic a plane's pixel is.
 use Prim.Native.Nat.{ℕ, zero, suc, _+_, _*_, _/_, _%_, _<_, _≤_}
-use mathlib.Core.Path.{_≡_, ap, _∙_}
+use mathlib.Core.Path.{_≡_, ap, subst, _∙_}
 use mathlib.Core.Logic.{⊎-elim}
 use native.Mathlib.Omega.{arith}
 use lib.Dec.{eqb}
@@ -35,6 +35,13 @@ column-half x w h = omega arith
 pub half-column : (u parity w : ℕ) → parity < 2 → u < half parity w → 2 * u + parity < w
 unfolding half
 half-column u parity w p h = omega arith
+
+-- what holds of every even number and of every odd one holds of all
+pub by-parity : (P : ℕ → Type 0) → ((k : ℕ) → P (2 * k)) → ((k : ℕ) → P (2 * k + 1)) → (x : ℕ) → P x
+by-parity P even odd x = ⊎-elim
+    (λ (e : x % 2 ≡ 0). let d : 2 * (x / 2) ≡ x = omega arith in subst P d (even (x / 2)))
+    (λ (n : x % 2 ≡ 0 → ⊥). let d : 2 * (x / 2) + 1 ≡ x = omega arith in subst P d (odd (x / 2)))
+    (eq-or-ne (x % 2) 0)
 
 -- ---- a half is what its words say: as many numbers below the side have that parity
 

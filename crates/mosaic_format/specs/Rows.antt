@@ -10,7 +10,7 @@ use Rattle.definitions.specs.Sum.{sum}
 use Rattle.laws.specs.general.Lists.{build-at}
 use Rattle.laws.specs.images.Sizes.{area, row-inside}
 use Rattle.mosaic_format.specs.Mosaic.{half, planeWidth, planeHeight, planeStart, planeOf, placeOf, Plane, planeAt, planesOf}
-use Rattle.mosaic_format.specs.Halves.{even-half, odd-half, halves, half-le, column-half}
+use Rattle.mosaic_format.specs.Halves.{even-half, odd-half, halves, half-le, column-half, plane-column, plane-row, plane-four}
 use Rattle.mosaic_format.specs.Places.{planes-whole, start-next, starts-up}
 
 -- ---- the four planes by arithmetic alone
@@ -61,17 +61,13 @@ module _ (w h y : ℕ) where
     abbrev p : ℕ
     p = planeOf x y
 
-    four : p < 4
-    unfolding planeOf
-    four = omega arith
-
     width-is : planeWidth w p ≡ half x w
-    unfolding planeWidth planeOf
-    width-is = ap (λ (q : ℕ). half q w) (omega arith)
+    unfolding planeWidth
+    width-is = ap (λ (q : ℕ). half q w) (omega (arith, plane-column x y))
 
     row-in : y / 2 < planeHeight h p
-    unfolding planeHeight planeOf
-    row-in = subst (λ (q : ℕ). y / 2 < half q h) (omega arith) (column-half y h l)
+    unfolding planeHeight
+    row-in = subst (λ (q : ℕ). y / 2 < half q h) (sym (plane-row x y)) (column-half y h l)
 
     before-next : placeOf w h x y + half x w ≤ planeStart w h (p + 1)
     unfolding placeOf
@@ -82,7 +78,7 @@ module _ (w h y : ℕ) where
 
     -- so that the run lies inside
     pub run-inside : placeOf w h x y + half x w ≤ w * h
-    run-inside = omega (arith, before-next, planes-whole w h, starts-up w h (p + 1) 4 (omega (arith, four)))
+    run-inside = omega (arith, before-next, planes-whole w h, starts-up w h (p + 1) 4 (omega (arith, plane-four x y)))
 
   -- the odd columns' run lies behind the even ones'
   pub run-behind : y < h → placeOf w h 0 y + half 0 w ≤ placeOf w h 1 y
