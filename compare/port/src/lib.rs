@@ -30,7 +30,7 @@ pub use naive::geometry::Shift;
 pub use naive::gray::Frame;
 pub use naive::mosaic::{Plane, Planes};
 pub use naive::refusals;
-pub use naive::report::{ALONE, CONTESTED, RECORD_BYTES, REFERENCE, Rivalry, WEAK};
+pub use naive::report::{ALONE, CONTESTED, RECORD_BYTES, REFERENCE, Record, Rivalry, WEAK};
 pub use naive::shrink::Shrink;
 
 /// Room for what a refusal tells besides its number, from the front on: under 4 both

@@ -1,6 +1,10 @@
 //! The report of a stack.
 
-use crate::{Options, Rivalry, Shrink, Stack, Values};
+use naive::geometry::Crop;
+use naive::refusals::FARTHEST_REACH;
+
+use crate::search::align_stack;
+use crate::{Options, RECORD_BYTES, Record, Rivalry, Scratch, Shrink, Stack, Values};
 
 /// What a report writes, the scratch apart.
 pub struct Report<'a> {
@@ -93,5 +97,107 @@ pub fn report(
             written.count,
             values,
         )
+    }
+}
+
+/// What a report is lent, owned: enough for every report of the stack that it is made for.
+pub struct Room {
+    shifts: Vec<i32>,
+    verdicts: Vec<u8>,
+    records: Vec<u8>,
+    bytes: Vec<u8>,
+    words: Vec<u64>,
+    crop: [usize; 4],
+    count: usize,
+    values: Values,
+}
+
+impl Room {
+    pub fn new(stack: Stack, bits: u32, rivalry: &Rivalry) -> Self {
+        let count = stack.widths.len();
+        let need = match count {
+            0 | 1 => Scratch::NONE,
+            _ => Scratch::of_step(stack.widths[0], stack.heights[0], bits),
+        };
+        let reach = rivalry.reach.min(FARTHEST_REACH);
+        let most = Rivalry { reach, ..*rivalry }.most_rivals() * count.saturating_sub(1);
+        Self {
+            records: vec![0; RECORD_BYTES * most],
+            bytes: vec![0; need.bytes],
+            words: vec![0; need.words],
+            ..Self::without_scratch(stack)
+        }
+    }
+
+    /// Enough for what is looked at before scratch and records.
+    pub fn without_scratch(stack: Stack) -> Self {
+        let count = stack.widths.len();
+        Self {
+            shifts: vec![0; 2 * count],
+            verdicts: vec![0; count],
+            records: vec![],
+            bytes: vec![],
+            words: vec![],
+            crop: [0; 4],
+            count: 0,
+            values: [0; 5],
+        }
+    }
+
+    /// The call alone, for whoever times it.
+    pub fn ask(&mut self, stack: Stack, options: &Options, rivalry: &Rivalry) -> u32 {
+        let written = Report {
+            shifts: &mut self.shifts,
+            verdicts: &mut self.verdicts,
+            records: &mut self.records,
+            crop: self.crop.each_mut(),
+            count: &mut self.count,
+        };
+        let scratch = (&mut self.bytes[..], &mut self.words[..]);
+        report(stack, options, rivalry, written, scratch, &mut self.values)
+    }
+
+    /// The stack's shifts alone, with the same scratch.
+    pub fn align(&mut self, stack: Stack, options: &Options) -> u32 {
+        let scratch = (&mut self.bytes[..], &mut self.words[..]);
+        align_stack(stack, options, &mut self.shifts, scratch, &mut self.values)
+    }
+
+    pub fn shifts(&self) -> &[i32] {
+        &self.shifts
+    }
+
+    /// What a refused call told besides its number.
+    pub fn values(&self) -> &Values {
+        &self.values
+    }
+
+    /// What an accepted call wrote.
+    pub fn told(&self) -> naive::report::Report {
+        let [x, y, width, height] = self.crop.map(|side| side as u64);
+        let records = self.records[..RECORD_BYTES * self.count].chunks(RECORD_BYTES);
+        naive::report::Report {
+            shifts: self.shifts.clone(),
+            verdicts: self.verdicts.clone(),
+            crop: Crop {
+                x,
+                y,
+                width,
+                height,
+            },
+            records: records.map(record).collect(),
+        }
+    }
+}
+
+/// A record's five numbers, low bytes first.
+fn record(bytes: &[u8]) -> Record {
+    let field = |at: usize| bytes[4 * at..][..4].try_into().expect("four bytes");
+    Record {
+        frame: u32::from_le_bytes(field(0)),
+        x: i32::from_le_bytes(field(1)),
+        y: i32::from_le_bytes(field(2)),
+        disagreeing: u32::from_le_bytes(field(3)),
+        compared: u32::from_le_bytes(field(4)),
     }
 }

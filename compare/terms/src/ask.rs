@@ -1,12 +1,11 @@
 //! A report asked of the port, and whether its answers are true.
 
-use naive::align::{Options, Scratch, Stack};
-use naive::report::{ALONE, CONTESTED, RECORD_BYTES, Rivalry, WEAK};
-use naive::shrink::Shrink;
-use port::report::{Report, report};
-
-use crate::camera::Bracket;
-use crate::scene::FINE;
+use brackets::asked::Asked;
+use naive::report::Report;
+use port::report::Room;
+use port::{ALONE, CONTESTED, Options, Record, Rivalry, Shrink, Stack, WEAK};
+use trials::camera::Bracket;
+use trials::camera::scene::FINE;
 
 /// What a caller chooses.
 #[derive(Clone, Copy)]
@@ -41,68 +40,59 @@ pub enum Verdict {
     Weak,
 }
 
-/// The answers on all frames of a bracket but the first, which is the reference.
-pub fn ask(bracket: &Bracket, terms: &Terms) -> Vec<Answer> {
-    let (side, count) = (bracket.side, bracket.moves.len());
-    let options = Options {
-        bits: terms.bits,
-        tolerance: terms.tolerance,
-        shrink: Shrink::Average,
-    };
-    let rivalry = Rivalry {
-        reach: terms.reach,
-        floor: terms.floor,
-        margin: terms.margin,
-    };
+/// What is made of the report of a bracket, whose first frame is the reference.
+pub fn of_report<T>(
+    bracket: &Bracket,
+    terms: &Terms,
+    made: impl FnOnce(&Asked, &Report) -> T,
+) -> T {
+    let count = bracket.moves.len();
     let [first, others] = terms.percentiles;
     let mut percentiles = vec![others; count];
     percentiles[0] = first;
-    let stack = Stack {
-        samples: &bracket.frames,
-        widths: &vec![side; count],
-        heights: &vec![side; count],
-        percentiles: &percentiles,
-        reference: 0,
-    };
-    let (mut shifts, mut verdicts) = (vec![0; 2 * count], vec![0; count]);
-    let mut records = vec![0; RECORD_BYTES * rivalry.most_rivals() * (count - 1)];
-    let need = Scratch::of_step(side, side, terms.bits);
-    let (mut bytes, mut words) = (vec![0; need.bytes], vec![0; need.words]);
-    let [mut left, mut top, mut wide, mut high, mut written] = [0; 5];
-
-    let status = report(
-        stack,
-        &options,
-        &rivalry,
-        Report {
-            shifts: &mut shifts,
-            verdicts: &mut verdicts,
-            records: &mut records,
-            crop: [&mut left, &mut top, &mut wide, &mut high],
-            count: &mut written,
+    let asked = Asked {
+        stack: Stack {
+            samples: &bracket.frames,
+            widths: &vec![bracket.width; count],
+            heights: &vec![bracket.height; count],
+            percentiles: &percentiles,
+            reference: 0,
         },
-        (&mut bytes, &mut words),
-        &mut [0; 5],
-    );
+        options: Options {
+            bits: terms.bits,
+            tolerance: terms.tolerance,
+            shrink: Shrink::Average,
+        },
+        rivalry: Rivalry {
+            reach: terms.reach,
+            floor: terms.floor,
+            margin: terms.margin,
+        },
+    };
+    let mut room = Room::new(asked.stack, terms.bits, &asked.rivalry);
+    let status = room.ask(asked.stack, &asked.options, &asked.rivalry);
     assert_eq!(status, 0, "the report is refused");
+    made(&asked, &room.told())
+}
 
-    let totals: Vec<[i32; 2]> = shifts.chunks(2).map(|at| [at[0], at[1]]).collect();
-    let rivals: Vec<[i32; 3]> = records[..RECORD_BYTES * written]
-        .chunks(RECORD_BYTES)
-        .map(|record| [0, 4, 8].map(|at| field(record, at)))
-        .collect();
+/// The answers on all frames of a bracket but the first.
+pub fn ask(bracket: &Bracket, terms: &Terms) -> Vec<Answer> {
+    of_report(bracket, terms, |_, report| answers(bracket, report))
+}
+
+fn answers(bracket: &Bracket, report: &Report) -> Vec<Answer> {
+    let totals: Vec<[i32; 2]> = report.shifts.chunks(2).map(|at| [at[0], at[1]]).collect();
     let mut moved = [0; 2];
-    (1..count)
+    (1..totals.len())
         .map(|frame| {
             let step = [0, 1].map(|axis| totals[frame][axis] - totals[frame - 1][axis]);
             moved = [0, 1].map(|axis| moved[axis] + bracket.moves[frame][axis]);
-            let distance = |rival: &[i32; 3]| {
-                let [x, y] = [0, 1].map(|axis| (rival[1 + axis] - step[axis]).abs());
-                x.max(y)
-            };
-            let of_frame = rivals.iter().filter(|rival| rival[0] == frame as i32);
+            let distance =
+                |rival: &Record| (rival.x - step[0]).abs().max((rival.y - step[1]).abs());
+            let of_frame = report.records.iter();
+            let of_frame = of_frame.filter(|rival| rival.frame == frame as u32);
             Answer {
-                verdict: match verdicts[frame] {
+                verdict: match report.verdicts[frame] {
                     ALONE => Verdict::Alone,
                     CONTESTED => Verdict::Contested,
                     WEAK => Verdict::Weak,
@@ -115,11 +105,6 @@ pub fn ask(bracket: &Bracket, terms: &Terms) -> Vec<Answer> {
             }
         })
         .collect()
-}
-
-/// A record's number, low byte first.
-fn field(record: &[u8], at: usize) -> i32 {
-    i32::from_le_bytes(record[at..at + 4].try_into().expect("four bytes"))
 }
 
 /// Whether a shift is less than so many pixels from the move on each axis. Less than one

@@ -1,10 +1,11 @@
 //! Tables for one caller: the page's example, and anybody's own terms.
 
+use trials::camera::Shot;
+use trials::camera::scene::Scene;
+
 use crate::ask::Terms;
-use crate::camera::Shot;
 use crate::given::*;
 use crate::rows::{by_group, by_scene, row};
-use crate::scene::Scene;
 use crate::table::of_verdicts;
 
 /// Terms and tremble of the caller's own, on every scene and in every light.

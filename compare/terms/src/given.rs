@@ -1,8 +1,13 @@
 //! What a table does not vary: how frames are taken, and the terms.
 
+use trials::advice;
+use trials::camera::Shot;
+use trials::camera::scene::Scene;
+
 use crate::ask::Terms;
-use crate::camera::Shot;
-use crate::scene::Scene;
+
+/// The sides of all frames but the large ones.
+const SIDE: usize = 64;
 
 /// The frames that a cell counts, of 64 by 64 and of 256 by 256.
 pub const COUNT: usize = 300;
@@ -10,7 +15,8 @@ pub const COUNT_LARGE: usize = 60;
 
 pub const WELL_LIT: Shot = Shot {
     scene: Scene::Flat,
-    side: 64,
+    width: SIDE,
+    height: SIDE,
     tremble: 7,
     is_whole: false,
     noise: 2,
@@ -30,26 +36,26 @@ pub const BRIGHT: Shot = Shot {
 };
 /// Each light with the percentile that the page advises for it.
 pub const LIGHTS: [(&str, Shot, u8); 3] = [
-    ("well lit", WELL_LIT, 50),
-    ("dark", DARK, 83),
-    ("bright", BRIGHT, 17),
+    ("well lit", WELL_LIT, advice::PERCENTILE),
+    ("dark", DARK, advice::OF_BLACK),
+    ("bright", BRIGHT, advice::OF_WHITE),
 ];
 
 /// What the program `stacksteps` asks.
 pub const PROGRAM: Terms = Terms {
     bits: 6,
-    tolerance: 4,
-    percentiles: [50; 2],
+    tolerance: advice::TOLERANCE,
+    percentiles: [advice::PERCENTILE; 2],
     reach: 1,
     floor: 1,
     margin: 0,
 };
 /// What the page advises for a tremble of 7 and well lit frames of 64 by 64.
 pub const ADVISED: Terms = Terms {
-    bits: 3,
-    reach: 14,
-    floor: 64 * 64 / 16,
-    margin: 64 * 64 * 3 / 200,
+    bits: advice::BITS,
+    reach: advice::reach(advice::BITS),
+    floor: advice::floor(SIDE, SIDE),
+    margin: advice::margin(SIDE, SIDE),
     ..PROGRAM
 };
 

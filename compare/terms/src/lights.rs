@@ -1,10 +1,11 @@
 //! Tables about frames that are dark or bright.
 
+use trials::camera::Shot;
+use trials::camera::scene::Scene;
+
 use crate::ask::Terms;
-use crate::camera::Shot;
 use crate::given::*;
 use crate::rows::{by_light, row};
-use crate::scene::Scene;
 use crate::table::{brackets, markdown_head, markdown_row, of_verdicts};
 
 pub fn floor(seed: u64) -> String {
@@ -107,7 +108,7 @@ pub fn clipped(seed: u64) -> String {
     for (light, taken, _) in LIGHTS {
         for (group, scenes) in GROUPS {
             let brackets = brackets(&shots(scenes, taken), COUNT, seed);
-            let area = taken.side * taken.side;
+            let area = taken.width * taken.height;
             let percent = |frame: usize, value: u8| {
                 let samples = brackets
                     .iter()

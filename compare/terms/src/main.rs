@@ -5,15 +5,14 @@
 //! terms, with `--time` how long a report takes.
 
 mod ask;
-mod camera;
 mod example;
 mod given;
 mod lights;
 mod page;
 mod reaches;
 mod rows;
-mod scene;
 mod searches;
+mod sentences;
 mod table;
 mod times;
 mod verdicts;
@@ -29,7 +28,7 @@ const SEED: u64 = 20_030_602;
 /// A table's name, and the table that a seed gives.
 type Table = (&'static str, fn(u64) -> String);
 
-const TABLES: [Table; 16] = [
+const TABLES: [Table; 18] = [
     ("reach-of-program", reaches::reach_of_program),
     ("reach", reaches::reach),
     ("reach-and-tremble", reaches::reach_and_tremble),
@@ -46,6 +45,8 @@ const TABLES: [Table; 16] = [
     ("example", example::example),
     ("verdicts", verdicts::verdicts),
     ("totals", verdicts::totals),
+    ("sentences", sentences::sentences),
+    ("followed", sentences::followed),
 ];
 
 fn main() -> ExitCode {

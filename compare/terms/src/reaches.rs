@@ -1,10 +1,12 @@
 //! Tables over the reach.
 
+use trials::advice;
+use trials::camera::Shot;
+use trials::camera::scene::Scene;
+
 use crate::ask::Terms;
-use crate::camera::Shot;
 use crate::given::*;
 use crate::rows::{by_group, by_scene};
-use crate::scene::Scene;
 use crate::table::{of_verdicts, of_verdicts_summed};
 
 /// At reach 1 only the step can be a rival: what is right there is the search's own doing.
@@ -26,12 +28,13 @@ pub fn reach(seed: u64) -> String {
 pub fn large_frames(seed: u64) -> String {
     let terms = REACHES.map(|reach| Terms {
         reach,
-        floor: 256 * 256 / 16,
-        margin: 256 * 256 * 3 / 200,
+        floor: advice::floor(256, 256),
+        margin: advice::margin(256, 256),
         ..ADVISED
     });
     let taken = Shot {
-        side: 256,
+        width: 256,
+        height: 256,
         ..WELL_LIT
     };
     let scenes = [

@@ -1,9 +1,10 @@
 //! Rows of tables that have a column for each choice of a term.
 
+use trials::camera::Shot;
+use trials::camera::scene::Scene;
+
 use crate::ask::Terms;
-use crate::camera::Shot;
 use crate::given::{GROUPS, LIGHTS, shots};
-use crate::scene::Scene;
 use crate::table::Row;
 
 pub fn row(name: String, shots: Vec<Shot>, terms: &[Terms]) -> Row {

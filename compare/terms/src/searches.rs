@@ -1,7 +1,8 @@
 //! Tables over the terms of the search, and over the margin.
 
+use trials::camera::Shot;
+
 use crate::ask::Terms;
-use crate::camera::Shot;
 use crate::given::*;
 use crate::rows::by_group;
 use crate::table::of_verdicts;

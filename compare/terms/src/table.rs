@@ -1,9 +1,9 @@
 //! Tables of counts: a row is what is photographed, a column a choice of terms.
 
+use trials::camera::{Bracket, Shot};
 use trials::inputs::Random;
 
 use crate::ask::{Answer, Terms, Verdict, ask};
-use crate::camera::{Bracket, Shot};
 
 /// A row's name, what is photographed for it, in equal shares, and the terms of its columns.
 pub struct Row {
@@ -14,7 +14,7 @@ pub struct Row {
 
 /// How many frames had each answer.
 #[derive(Clone, Default)]
-struct Tally {
+pub struct Tally {
     alone_right: usize,
     alone_wrong: usize,
     contested: usize,
@@ -22,7 +22,7 @@ struct Tally {
 }
 
 impl Tally {
-    fn add(&mut self, answer: &Answer) {
+    pub fn add(&mut self, answer: &Answer) {
         *match (answer.verdict, answer.is_right) {
             (Verdict::Alone, true) => &mut self.alone_right,
             (Verdict::Alone, false) => &mut self.alone_wrong,
@@ -31,7 +31,7 @@ impl Tally {
         } += 1;
     }
 
-    fn cell(&self) -> String {
+    pub fn cell(&self) -> String {
         let wrong = warned(self.alone_wrong);
         let (right, contested, weak) = (self.alone_right, self.contested, self.weak);
         format!("{right} / {wrong} / {contested} / {weak}")

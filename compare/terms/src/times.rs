@@ -1,11 +1,12 @@
 //! How long a report takes. No two runs measure the same, so this is no table of the check.
 
+use trials::advice;
+use trials::camera::scene::Scene;
+use trials::camera::{Bracket, Shot};
 use trials::clock::processor_time;
 
 use crate::ask::{Terms, ask};
-use crate::camera::{Bracket, Shot};
 use crate::given::{ADVISED, WELL_LIT, shots};
-use crate::scene::Scene;
 use crate::table::{brackets, markdown_head, markdown_row};
 
 /// Milliseconds a frame, by size and scene.
@@ -14,14 +15,18 @@ pub fn times(seed: u64) -> String {
     let mut table = markdown_head(&head);
     for side in [64, 256, 1024] {
         for scene in [Scene::Board, Scene::Corner] {
-            let taken = Shot { side, ..WELL_LIT };
+            let (width, height) = (side, side);
+            let taken = Shot {
+                width,
+                height,
+                ..WELL_LIT
+            };
             let bracket = brackets(&shots(&[scene], taken), 1, seed).remove(0);
-            let samples = (side * side) as u32;
             let cells = [1, 4, 8, 16, 32, 64].map(|reach| {
                 let terms = Terms {
                     reach,
-                    floor: samples / 16,
-                    margin: samples * 3 / 200,
+                    floor: advice::floor(width, height),
+                    margin: advice::margin(width, height),
                     ..ADVISED
                 };
                 let least = least_time(&bracket, &terms) / 1e6;

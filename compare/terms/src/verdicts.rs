@@ -1,9 +1,10 @@
 //! Tables about the verdicts, all at the advised terms.
 
+use trials::camera::Shot;
+use trials::camera::scene::Scene;
+
 use crate::ask::{Answer, Terms, Verdict, ask};
-use crate::camera::Shot;
 use crate::given::*;
-use crate::scene::Scene;
 use crate::table::{brackets, markdown_head, markdown_row, warned};
 
 /// A verdict, with how far away the rivals of a contested step lie.

@@ -1,7 +1,10 @@
-//! What the comparisons, the vectors and the timings share: seeded inputs like the
-//! trade's, the original asked in the naive reading's terms, the run over all cases, and
-//! a clock.
+//! What the comparisons, the vectors, the timings, the tables and the hall's command
+//! share: seeded inputs like the trade's, photographs with known moves, the terms that are
+//! advised, the original asked in the naive reading's terms, the run over all cases, and a
+//! clock.
 
+pub mod advice;
+pub mod camera;
 pub mod clock;
 pub mod frames;
 pub mod inputs;

@@ -94,7 +94,8 @@ fn numbers_in(said: &str) -> Vec<usize> {
         .collect()
 }
 
-fn gray(frame: Frame) -> original::Gray {
+/// A frame of the original's own.
+pub fn gray(frame: Frame) -> original::Gray {
     original::Gray::from_vec(frame.samples.to_vec(), frame.width, frame.height)
 }
 
@@ -111,7 +112,7 @@ pub fn has_one(percentiles: &[u8]) -> bool {
 }
 
 /// With the one percentile of these; of no frames it is no matter which.
-fn options_of(options: &Options, percentiles: &[u8]) -> original::Options {
+pub fn options_of(options: &Options, percentiles: &[u8]) -> original::Options {
     assert!(has_one(percentiles), "the original has one percentile");
     let percentile = percentiles.first().copied().unwrap_or_default();
     original::Options {

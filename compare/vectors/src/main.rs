@@ -3,6 +3,7 @@
 //! there. With `--netpbm` holds greymaps against Netpbm, where that is at hand.
 
 mod bitmaps;
+mod brackets;
 mod cases;
 mod images;
 mod line;
@@ -202,6 +203,10 @@ fn made() -> (Files, usize) {
     cases += 1;
     let board = planes::file(&mut Random::new(SEED));
     files.insert(Path::new("mosaics").join("board.pgm"), board);
+    for (name, bytes) in brackets::files(&mut Random::new(SEED)) {
+        cases += 1;
+        files.insert(Path::new("brackets").join(name), bytes);
+    }
     (files, cases)
 }
 
@@ -237,7 +242,7 @@ fn run(check: bool) -> io::Result<bool> {
     inputs.extend(bracket_input(&files));
     inputs.extend(planes_input());
     if !check {
-        for inner in ["stacksteps", "netpbm", "mosaics"] {
+        for inner in ["stacksteps", "netpbm", "mosaics", "brackets"] {
             fs::create_dir_all(folder.join(inner))?;
         }
         write(&folder, &files)?;

@@ -1,6 +1,6 @@
 //! What lies under the camera: how bright each point of an endless plane is.
 
-use trials::inputs::Random;
+use crate::inputs::Random;
 
 /// Points to the side of a pixel, so that a move by a quarter of a pixel is one by whole
 /// points. All that follows is in points where it does not say pixels.

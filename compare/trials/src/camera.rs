@@ -1,15 +1,17 @@
 //! A camera over a scene: what its frames hold when they are taken one after another
-//! while the nozzle trembles.
+//! while the nozzle trembles. How far each lies off the one before is known.
 
-use trials::inputs::Random;
+pub mod scene;
 
-use crate::scene::{FINE, Scene};
+use crate::inputs::Random;
+use scene::{FINE, Scene};
 
 /// How brackets are taken.
 #[derive(Clone, Copy)]
 pub struct Shot {
     pub scene: Scene,
-    pub side: usize,
+    pub width: usize,
+    pub height: usize,
     /// The most pixels that two frames lie apart, on either axis.
     pub tremble: i64,
     /// Whether they lie apart by whole pixels, else by quarters.
@@ -24,7 +26,8 @@ pub struct Shot {
 
 /// The samples of all frames, and by how many points each lies off the one before.
 pub struct Bracket {
-    pub side: usize,
+    pub width: usize,
+    pub height: usize,
     pub frames: Vec<u8>,
     pub moves: Vec<[i64; 2]>,
 }
@@ -32,9 +35,11 @@ pub struct Bracket {
 impl Shot {
     pub fn taken(&self, random: &mut Random) -> Bracket {
         let seed = random.word();
-        let side = self.side as i64 * FINE;
         // What ends at (0, 0) does so in the middle of the first frame.
-        let mut at = [0; 2].map(|_: i64| -random.between(side / 4, 3 * side / 4));
+        let mut at = [self.width, self.height].map(|side| {
+            let side = side as i64 * FINE;
+            -random.between(side / 4, 3 * side / 4)
+        });
         let (mut frames, mut moves) = (Vec::new(), Vec::new());
         for (number, &exposure) in self.exposures.iter().enumerate() {
             let moved = match number {
@@ -46,7 +51,8 @@ impl Shot {
             self.expose(seed, at, exposure, random, &mut frames);
         }
         Bracket {
-            side: self.side,
+            width: self.width,
+            height: self.height,
             frames,
             moves,
         }
@@ -67,8 +73,8 @@ impl Shot {
         random: &mut Random,
         frames: &mut Vec<u8>,
     ) {
-        for y in 0..self.side as i64 {
-            for x in 0..self.side as i64 {
+        for y in 0..self.height as i64 {
+            for x in 0..self.width as i64 {
                 let mut light = 0;
                 for down in 0..FINE {
                     for right in 0..FINE {

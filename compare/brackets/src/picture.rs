@@ -1,0 +1,233 @@
+//! A window as a picture: a square a shift, dark where few pixels disagree, with the step and
+//! the rivals marked.
+
+use naive::report::Report;
+
+use crate::asked::Asked;
+use crate::letters::{ADVANCE, LINE, points};
+use crate::people::{grouped, verdict};
+use crate::png::{Palette, png};
+use crate::sentences::{counts_of_step, rivals};
+use crate::window::{Mark, Window};
+
+/// The greys of a picture, from black on, and the colours behind them.
+const GREYS: u8 = 248;
+const WHITE: u8 = 248;
+const BLACK: u8 = 249;
+const GREEN: u8 = 250;
+const RED: u8 = 251;
+const BLUE: u8 = 252;
+
+fn palette() -> Palette {
+    let mut palette = [[0; 3]; 256];
+    for grey in 0..GREYS {
+        palette[usize::from(grey)] = [(u32::from(grey) * 255 / 247) as u8; 3];
+    }
+    for (colour, light) in [
+        (WHITE, [255, 255, 255]),
+        (BLACK, [0, 0, 0]),
+        (GREEN, [0, 190, 60]),
+        (RED, [235, 45, 45]),
+        (BLUE, [96, 132, 190]),
+    ] {
+        palette[usize::from(colour)] = light;
+    }
+    palette
+}
+
+/// How large a point of a letter is, what lies around all, and how wide a window is meant
+/// to be.
+const POINT: usize = 2;
+const EDGE: usize = 12;
+const MEANT: usize = 580;
+const SMALL: usize = 9;
+const ROW: usize = LINE * POINT + 2;
+/// Room on the left for the rows' numbers.
+const NUMBERS: usize = 6 * ADVANCE * POINT;
+
+struct Canvas {
+    width: usize,
+    pixels: Vec<u8>,
+}
+
+impl Canvas {
+    fn new(width: usize, height: usize) -> Self {
+        let pixels = vec![WHITE; width * height];
+        Self { width, pixels }
+    }
+
+    fn fill(&mut self, (left, top): (usize, usize), (width, height): (usize, usize), colour: u8) {
+        for y in top..top + height {
+            self.pixels[y * self.width + left..][..width].fill(colour);
+        }
+    }
+
+    /// The inner edge of a square.
+    fn ring(&mut self, (left, top): (usize, usize), side: usize, thick: usize, colour: u8) {
+        let far = side - thick;
+        self.fill((left, top), (side, thick), colour);
+        self.fill((left, top + far), (side, thick), colour);
+        self.fill((left, top), (thick, side), colour);
+        self.fill((left + far, top), (thick, side), colour);
+    }
+
+    fn write(&mut self, (left, top): (usize, usize), text: &str) {
+        for (x, y) in points(text) {
+            self.fill((left + POINT * x, top + POINT * y), (POINT, POINT), BLACK);
+        }
+    }
+}
+
+fn width_of(text: &str) -> usize {
+    ADVANCE * POINT * text.len()
+}
+
+/// The file of a frame's picture.
+pub fn of_frame(asked: &Asked, report: &Report, frame: usize) -> Vec<u8> {
+    let window = Window::of(asked, report, frame);
+    let counts = counts_of_step(asked, report, frame);
+    let title = [
+        format!(
+            "frame {frame} on frame {}: {}",
+            asked.neighbour(frame),
+            verdict(report.verdicts[frame])
+        ),
+        format!(
+            "step ({}, {}): {} of {} disagree",
+            window.step.x,
+            window.step.y,
+            grouped(counts.disagreeing),
+            grouped(counts.compared)
+        ),
+    ];
+    let [least, most] = window.least_and_most();
+    let rivals = rivals(asked, report, frame).len();
+    let legend = [
+        format!("{} to {} pixels disagree", grouped(least), grouped(most)),
+        "the step, and the shifts next to it".to_string(),
+        match rivals {
+            0 => "no rival".into(),
+            1 => "1 rival".into(),
+            more => format!("{} rivals", grouped(more as u64)),
+        },
+        format!(
+            "fewer than {} pixels compared",
+            grouped(asked.rivalry.floor.into())
+        ),
+    ];
+    drawn(&window, &title, &legend)
+}
+
+fn drawn(window: &Window, title: &[String], legend: &[String; 4]) -> Vec<u8> {
+    let side = window.side();
+    let cell = (MEANT / side).clamp(4, 40);
+    let bar = 4 * ROW; // as wide as the legend's bar of greys
+    let inner = [
+        NUMBERS + side * cell,
+        title.iter().map(|line| width_of(line)).max().unwrap_or(0),
+        legend
+            .iter()
+            .map(|line| bar + ROW + width_of(line))
+            .max()
+            .unwrap_or(0),
+    ];
+    let width = 2 * EDGE + inner.into_iter().max().unwrap_or(0);
+    let top = EDGE + title.len() * ROW + EDGE;
+    let below = top + side * cell + ROW + EDGE;
+    let mut canvas = Canvas::new(width, below + legend.len() * ROW + EDGE);
+    for (number, line) in title.iter().enumerate() {
+        canvas.write((EDGE, EDGE + number * ROW), line);
+    }
+
+    let left = EDGE + NUMBERS;
+    let corner = |column: usize, row: usize| (left + column * cell, top + row * cell);
+    let [least, most] = window.least_and_most();
+    let grey = |disagreeing: u64| {
+        let over = (disagreeing - least) * u64::from(GREYS - 1);
+        over.checked_div(most - least).unwrap_or(0) as u8
+    };
+    let place = |at: usize| corner(at % side, at / side);
+    for (at, (counts, mark)) in window.shifts.iter().enumerate() {
+        let colour = match mark {
+            Mark::Unseen => BLUE,
+            _ => grey(counts.disagreeing.clamp(least, most)),
+        };
+        canvas.fill(place(at), (cell, cell), colour);
+    }
+    let thick = (cell / 7).max(1);
+    // What a ring would leave of a small square is not seen.
+    let thick_of_rival = if cell < SMALL {
+        cell.div_ceil(2)
+    } else {
+        thick
+    };
+    for (at, (_, mark)) in window.shifts.iter().enumerate() {
+        if *mark == Mark::Rival {
+            canvas.ring(place(at), cell, thick_of_rival, RED);
+        }
+    }
+    let middle = side / 2;
+    if middle > 0 {
+        canvas.ring(corner(middle - 1, middle - 1), 3 * cell, 1, GREEN);
+    }
+    mark_step(&mut canvas, corner(middle, middle), cell, thick);
+    number_axes(&mut canvas, window, cell, (left, top));
+
+    for (number, line) in legend.iter().enumerate() {
+        let (x, y) = (EDGE, below + number * ROW);
+        let mark = ROW - 6;
+        let beside = x + bar - mark;
+        match number {
+            0 => {
+                for column in 0..bar {
+                    let grey = column * usize::from(GREYS - 1) / (bar - 1);
+                    canvas.fill((x + column, y), (1, mark), grey as u8);
+                }
+            }
+            1 => mark_step(&mut canvas, (beside, y), mark, 2),
+            2 => canvas.ring((beside, y), mark, 2, RED),
+            _ => canvas.fill((beside, y), (mark, mark), BLUE),
+        }
+        canvas.write((x + bar + ROW, y + 1), line);
+    }
+    png(width, &canvas.pixels, &palette())
+}
+
+/// A ring with a dot in it.
+fn mark_step(canvas: &mut Canvas, (left, top): (usize, usize), side: usize, thick: usize) {
+    canvas.ring((left, top), side, thick, GREEN);
+    let dot = side / 3;
+    let inset = (side - dot) / 2;
+    canvas.fill((left + inset, top + inset), (dot, dot), GREEN);
+}
+
+/// The coordinates below the columns and left of the rows, as many as there is room for.
+fn number_axes(canvas: &mut Canvas, window: &Window, cell: usize, (left, top): (usize, usize)) {
+    let side = window.side();
+    let longest =
+        [window.step.x, window.step.y].map(|at| (at.abs() + window.reach).to_string().len() + 2);
+    let room = longest[0].max(longest[1]) * ADVANCE * POINT;
+    let every = [1, 2, 5, 10, 20, 50]
+        .into_iter()
+        .find(|every| every * cell >= room);
+    let every = every.unwrap_or(100) as i32;
+    let letter = LINE * POINT - 6;
+    for at in 0..side {
+        let off = at as i32 - window.reach;
+        let [x, y] = [window.step.x + off, window.step.y + off];
+        if x % every == 0 {
+            let text = x.to_string();
+            let middle = left + at * cell + cell / 2;
+            let start = middle.saturating_sub(width_of(&text) / 2);
+            canvas.fill((middle, top + side * cell), (1, 4), BLACK);
+            canvas.write((start, top + side * cell + 6), &text);
+        }
+        if y % every == 0 {
+            let text = y.to_string();
+            let middle = top + at * cell + cell / 2;
+            canvas.fill((left - 4, middle), (4, 1), BLACK);
+            let start = left - 8 - width_of(&text);
+            canvas.write((start, middle - letter / 2), &text);
+        }
+    }
+}

@@ -1,0 +1,110 @@
+#!/usr/bin/env bash
+# Tries the command hall as a user calls it, and, where Debian's packages netpbm and opencv-doc are at hand,
+# on photographs: windows cut out of one at known places and exposed otherwise, and two of one scene. Says in a
+# line what was held, or what is left out.
+set -euo pipefail
+cd "$(dirname "${BASH_SOURCE[0]}")/.."
+room=$(mktemp -d)
+trap 'rm -rf "$room"' EXIT
+fail() { echo "hall: $1"; exit 1; }
+
+bracket=$PWD/vectors/data/brackets/board.pgm
+without_times() { grep -v '^time '; }
+
+# From anywhere, by any path, the same; and where nothing has changed, with no tool at hand but the shell.
+called_from_anywhere() {
+  local here=$PWD
+  ./hall "$bracket" --plain | without_times >"$room/said"
+  grep -q '^agree port original naive$' "$room/said" || fail "does not agree on $bracket"
+  (cd / && "$here/hall" "$bracket" --plain) | without_times | cmp - "$room/said" || fail "says something else from another folder"
+  (cd "$room" && bash "$here/hall" "$bracket" --plain) | without_times | cmp - "$room/said" || fail "says something else by bash"
+  ln -s "$here/hall" "$room/linked"
+  "$room/linked" "$bracket" --plain | without_times | cmp - "$room/said" || fail "says something else by a link"
+  env PATH=/nowhere /bin/sh ./hall "$bracket" --plain | without_times | cmp - "$room/said" || fail "builds anew though nothing has changed"
+}
+
+# A source that was touched is seen, and so is a list that is not there; then it is built and goes on.
+built_anew() {
+  local list=target/speed/hall.sources status
+  for change in 'chmod u+r trials/src/lib.rs' "mv $list $room/list" "sed -i 1d $list"; do
+    $change
+    [ "$change" != "sed -i 1d $list" ] || echo 'anything else' >>"$list"
+    status=0
+    HALL_SOURCES=$list target/speed/hall --help >/dev/null || status=$?
+    [ "$status" -eq 100 ] || fail "does not see that it is to be built anew: $change"
+    ./hall "$bracket" --plain | without_times | cmp - "$room/said" || fail "is not built anew: $change"
+    HALL_SOURCES=$list target/speed/hall --help >/dev/null || fail "is built anew again: $change"
+  done
+  echo "hall: says the same from any folder, by bash and by a link, and is built anew where a source has changed"
+}
+
+status_of() { # WANTED ARGUMENTS...
+  local wanted=$1 status=0
+  shift
+  ./hall "$@" >/dev/null 2>&1 || status=$?
+  [ "$status" -eq "$wanted" ] || fail "ends with $status in place of $wanted: $*"
+}
+
+# Where each window is cut out, and how it is exposed.
+photographs=/usr/share/doc/opencv-doc/examples/data
+places=('60 70' '63 68' '56 73' '60 77') exposures=(1 0.7 1.3 0.5)
+
+grey() { # NAME
+  case $1 in
+  *.png) pngtopam -quiet "$photographs/$1" ;;
+  *) jpegtopnm -quiet "$photographs/$1" ;;
+  esac | ppmtopgm -quiet
+}
+
+windows_of_photographs() {
+  local name frame left top x y verdict frames=0 alone=0 pictures=0
+  for name in board.jpg building.jpg fruits.jpg home.jpg baboon.jpg butterfly.jpg stuff.jpg left01.jpg; do
+    [ -f "$photographs/$name" ] || continue
+    grey "$name" >"$room/whole.pgm"
+    for frame in 0 1 2 3; do
+      read -r left top <<<"${places[frame]}"
+      pamcut -left "$left" -top "$top" -width 240 -height 180 "$room/whole.pgm" | pamfunc -multiplier "${exposures[frame]}"
+    done >"$room/bracket.pgm"
+    ./hall "$room/bracket.pgm" --plain >"$room/fields" || fail "ends with $? on windows of $name"
+    grep -q '^agree port original naive$' "$room/fields" || fail "does not agree on windows of $name"
+    while read -r _ frame x y verdict _; do
+      read -r left top <<<"${places[frame]}"
+      [ "$verdict" != reference ] || continue
+      frames=$((frames + 1))
+      [ "$verdict" = alone ] || continue
+      alone=$((alone + 1))
+      [ "$x $y" = "$((left - 60)) $((top - 70))" ] || fail "lays frame $frame of $name at $x $y"
+    done < <(grep '^frame ' "$room/fields")
+    pictures=$((pictures + 1))
+  done
+  [ "$alone" -gt $((frames / 2)) ] || fail "calls $alone of $frames frames alone"
+  echo "hall: of windows of $pictures photographs all $frames shifts agree, $alone are alone and as they were cut"
+}
+
+pairs_of_photographs() {
+  local one other pairs=0
+  while read -r one other; do
+    [ -f "$photographs/$one" ] && [ -f "$photographs/$other" ] || continue
+    grey "$one" >"$room/one.pgm"
+    grey "$other" >"$room/other.pgm"
+    ./hall "$room/one.pgm" "$room/other.pgm" --bits 6 --reach 14 --no-naive >/dev/null || fail "does not agree on $one and $other"
+    pairs=$((pairs + 1))
+  done <<<'leuvenA.jpg leuvenB.jpg
+aloeL.jpg aloeR.jpg
+basketball1.png basketball2.png
+rubberwhale1.png rubberwhale2.png
+left01.jpg left02.jpg'
+  echo "hall: of $pairs pairs of photographs all shifts agree"
+}
+
+called_from_anywhere
+built_anew
+status_of 0 "$bracket" --no-naive
+status_of 2 "$room/missing.pgm"
+status_of 2
+if [ -d "$photographs" ] && command -v jpegtopnm pngtopam ppmtopgm pamcut pamfunc >/dev/null; then
+  windows_of_photographs
+  pairs_of_photographs
+else
+  echo "hall on photographs: left out, no netpbm or no opencv-doc at hand"
+fi
