@@ -1,8 +1,8 @@
 # For ../hall: builds the command, and lists what it is made of.
 set -euo pipefail
-cd "$(dirname "${BASH_SOURCE[0]}")/.."
+CDPATH='' cd -- "$(dirname "${BASH_SOURCE[0]}")/.."
 if ! . port/archive.sh; then
-  echo "no archive of the port and no rt to make it"
+  echo "there is no $archive, and no rt to make it or MTB_STATICLIB names its folder"
   exit 1
 fi
 if ! command -v cargo >/dev/null; then
@@ -10,8 +10,10 @@ if ! command -v cargo >/dev/null; then
   exit 1
 fi
 [ -x target/speed/hall ] || echo "building the original and the command"
-# What is changed while this builds is newer than the list.
+# What is changed while this builds is newer than the list. Of an archive that somebody names there is none:
+# the next call is not to take what is made of it for the port.
+rm -f target/speed/hall.sources
 sources=$(find -H Cargo.toml Cargo.lock {original,naive,trials,port,brackets}/{Cargo.toml,src} port/{archive.sh,build.rs} brackets/build.sh \
-  ../crates.txt $(crates_below | sed 's,^,../crates/,') $(command -v rt cargo || true) -name must-fail -prune -o -printf '%C@ %s %i %p\n')
+  ../crates.txt $(crates_below | sed 's,^,../crates/,') "$archive" $(command -v rt || true) -name must-fail -prune -o -printf '%C@ %s %i %p\n')
 cargo build --profile speed --offline --locked --quiet --package brackets
-printf '%s\n' "$sources" >target/speed/hall.sources
+[ -n "${MTB_STATICLIB:-}" ] || printf '%s\n' "$sources" >target/speed/hall.sources

@@ -3,7 +3,7 @@
 # on photographs: windows cut out of one at known places and exposed otherwise, and two of one scene. Says in a
 # line what was held, or what is left out.
 set -euo pipefail
-cd "$(dirname "${BASH_SOURCE[0]}")/.."
+CDPATH='' cd -- "$(dirname "${BASH_SOURCE[0]}")/.."
 room=$(mktemp -d)
 trap 'rm -rf "$room"' EXIT
 fail() { echo "hall: $1"; exit 1; }
@@ -23,19 +23,30 @@ called_from_anywhere() {
   env PATH=/nowhere /bin/sh ./hall "$bracket" --plain | without_times | cmp - "$room/said" || fail "builds anew though nothing has changed"
 }
 
-# A source that was touched is seen, and so is a list that is not there; then it is built and goes on.
+# A source that was touched is seen, and so is a list that is not there or has something else; then it is built and goes on.
+is_current() { HALL_SOURCES=$1 HALL_COMMAND=/bin/false target/speed/hall --help >/dev/null; }
 built_anew() {
-  local list=target/speed/hall.sources status
-  for change in 'chmod u+r trials/src/lib.rs' "mv $list $room/list" "sed -i 1d $list"; do
-    $change
-    [ "$change" != "sed -i 1d $list" ] || echo 'anything else' >>"$list"
-    status=0
-    HALL_SOURCES=$list target/speed/hall --help >/dev/null || status=$?
-    [ "$status" -eq 100 ] || fail "does not see that it is to be built anew: $change"
+  local list=target/speed/hall.sources change
+  for change in touched moved other; do
+    is_current "$list" || fail "is to be built anew though nothing has changed"
+    case $change in
+    touched) chmod u+r trials/src/lib.rs ;;
+    moved) mv "$list" "$room/list" ;;
+    other) echo 'anything else' >>"$list" ;;
+    esac
+    ! is_current "$list" || fail "does not see that it is to be built anew: $change"
     ./hall "$bracket" --plain | without_times | cmp - "$room/said" || fail "is not built anew: $change"
-    HALL_SOURCES=$list target/speed/hall --help >/dev/null || fail "is built anew again: $change"
   done
   echo "hall: says the same from any folder, by bash and by a link, and is built anew where a source has changed"
+}
+
+# What is made of an archive that somebody names is not taken for the port afterwards.
+archive_named() {
+  cp ../target/staticlib/libmtb_c.a "$room"
+  MTB_STATICLIB=$room ./hall "$bracket" --plain | without_times | cmp - "$room/said" || fail "says something else of a copy of the archive"
+  ! is_current target/speed/hall.sources || fail "takes another archive's build for the port's"
+  ./hall "$bracket" --plain | without_times | cmp - "$room/said" || fail "is not built anew behind another archive"
+  is_current target/speed/hall.sources || fail "is to be built anew though nothing has changed"
 }
 
 status_of() { # WANTED ARGUMENTS...
@@ -99,6 +110,7 @@ left01.jpg left02.jpg'
 
 called_from_anywhere
 built_anew
+[ -n "${MTB_STATICLIB:-}" ] || archive_named
 status_of 0 "$bracket" --no-naive
 status_of 2 "$room/missing.pgm"
 status_of 2

@@ -2,16 +2,19 @@
 
 use std::thread;
 
+use naive::geometry::Crop;
 use naive::report::{Report, Room as Lengths, report as naive_report};
 use port::refusals::{RECORD_SPACE_TOO_SHORT, SCRATCH_TOO_SHORT};
 use port::report::Room;
-use port::{Frame, RECORD_BYTES, Scratch, Shift};
+use port::{Frame, RECORD_BYTES, Record, Scratch, Shift};
 use trials::original::{gray, has_one, options_of};
 use trials::recount;
 
 use crate::asked::Asked;
+use crate::bracket::Bracket;
+use crate::people::{pair, verdict};
 use crate::refused;
-use crate::watch::watched;
+use crate::watch::timed;
 
 pub const PORT: &str = "port";
 pub const ORIGINAL: &str = "original";
@@ -34,7 +37,11 @@ pub struct Told {
 #[derive(Clone, Copy, PartialEq, Eq)]
 pub enum Naive {
     Report,
+    /// Its report would take too long.
     Shifts,
+    /// So would its shifts.
+    None,
+    /// The user did not want it.
     LeftOut,
 }
 
@@ -50,9 +57,11 @@ pub struct Answers {
     pub times: Vec<(&'static str, f64)>,
 }
 
-/// How many pixels are looked at in some five seconds by the naive reading, each at one
-/// shift.
+/// How many pixels the naive reading counts in some five seconds, each at one shift.
 const NAIVE_PIXELS: usize = 1_200_000_000;
+/// A search costs as much as this many shifts at full size: nine at each level, and levels that
+/// are halved, cut and taken apart into bits.
+const OF_SEARCH: usize = 60;
 
 impl Naive {
     /// As much as takes seconds.
@@ -60,21 +69,20 @@ impl Naive {
         let (width, height) = asked.size();
         let pixels = width * height * (asked.frames() - 1);
         let window = (2 * asked.rivalry.reach as usize + 1).pow(2);
-        // Nine shifts of each level, which has a quarter of the pixels of the one below.
-        let [report, search] = [window + 12, 12].map(|shifts| pixels.saturating_mul(shifts));
-        if report <= NAIVE_PIXELS {
+        let is_short = |shifts: usize| pixels.saturating_mul(shifts) <= NAIVE_PIXELS;
+        if is_short(window + OF_SEARCH) {
             Naive::Report
-        } else if search <= NAIVE_PIXELS {
+        } else if is_short(OF_SEARCH) {
             Naive::Shifts
         } else {
-            Naive::LeftOut
+            Naive::None
         }
     }
 }
 
 /// Why the port refuses a stack, if it does. It is lent no scratch and no room for records,
 /// which it looks at last.
-pub fn check(asked: &Asked) -> Result<(), String> {
+pub fn check(asked: &Asked, bracket: &Bracket) -> Result<(), String> {
     let Asked {
         stack,
         options,
@@ -83,7 +91,7 @@ pub fn check(asked: &Asked) -> Result<(), String> {
     let mut room = Room::without_scratch(*stack);
     match room.ask(*stack, options, rivalry) {
         0 | SCRATCH_TOO_SHORT | RECORD_SPACE_TOO_SHORT => Ok(()),
-        refusal => Err(refused::sentence(refusal, room.values())),
+        refusal => Err(refused::sentence(refusal, room.values(), bracket)),
     }
 }
 
@@ -139,12 +147,12 @@ impl Answers {
             records: RECORD_BYTES * rivalry.most_rivals() * asked.frames(),
         };
         let (shifts, time) = match self.naive {
-            Naive::LeftOut => return,
-            Naive::Shifts => watched("the naive reading's shifts", || {
+            Naive::None | Naive::LeftOut => return,
+            Naive::Shifts => timed("the naive reading's shifts", || {
                 naive::align::align_stack(stack, &options, room.shifts, scratch)
             }),
             Naive::Report => {
-                let (report, time) = watched("the naive reading's report", || {
+                let (report, time) = timed("the naive reading's report", || {
                     naive_report(stack, &options, &rivalry, room)
                 });
                 let shifts = report.map(|report| {
@@ -161,51 +169,54 @@ impl Answers {
     /// Where the shifts are not the same, the first such frame and each answer; then where
     /// the reports are not.
     pub fn difference(&self) -> Option<String> {
-        let frames = self.report.verdicts.len();
-        let of_frame =
-            |shifts: &[i32], frame: usize| Shift::new(shifts[2 * frame], shifts[2 * frame + 1]);
-        let in_report = [(REPORT, &self.report.shifts)].into_iter();
+        let of_frame = |shifts: &[i32], frame: usize| [shifts[2 * frame], shifts[2 * frame + 1]];
+        let in_report = (REPORT, &self.report.shifts);
         let in_all = self.told.iter().map(|told| (told.by, &told.shifts));
-        let all: Vec<_> = in_all.chain(in_report).collect();
-        for frame in 0..frames {
+        let all: Vec<_> = in_all.chain([in_report]).collect();
+        for frame in 0..self.report.verdicts.len() {
             let each = all.iter().map(|(by, shifts)| (by, of_frame(shifts, frame)));
-            let each: Vec<_> = each.collect();
-            if each.iter().any(|(_, shift)| *shift != each[0].1) {
-                let said = each
-                    .iter()
-                    .map(|(by, shift)| format!("{by} ({}, {})", shift.x, shift.y));
+            if each
+                .clone()
+                .any(|(_, shift)| shift != of_frame(&self.report.shifts, frame))
+            {
+                let said = each.map(|(by, [x, y])| format!("{by} {x},{y}"));
                 let said: Vec<String> = said.collect();
-                return Some(format!("frame {frame} differs: {}", said.join(", ")));
+                return Some(format!("frame {frame} differs: {}", said.join("; ")));
             }
         }
         self.report_differs.clone()
     }
 }
 
-/// Where the naive report is another than the port's, but for the shifts.
+/// Where the naive report is another than the port's, but for the shifts: the first frame's
+/// verdict, then the first record, then the crop.
 fn difference(port: &Report, naive: &Report) -> Option<String> {
+    let both = |port: String, naive: String| format!("port {port}; naive {naive}");
     for (frame, (own, other)) in port.verdicts.iter().zip(&naive.verdicts).enumerate() {
-        let of_frame = |report: &Report| {
-            let records = report.records.iter();
-            let of_frame = records.filter(|record| record.frame as usize == frame);
-            of_frame.copied().collect::<Vec<_>>()
-        };
-        let (records, others) = (of_frame(port), of_frame(naive));
-        if (own, &records) != (other, &others) {
-            let (count, other_count) = (records.len(), others.len());
-            return Some(format!(
-                "frame {frame} differs in its report: port verdict {own} with {count} rivals, \
-                 naive verdict {other} with {other_count}"
-            ));
+        if own != other {
+            let said = both(verdict(*own).into(), verdict(*other).into());
+            return Some(format!("the verdict on frame {frame} differs: {said}"));
         }
     }
-    let differs = port.crop != naive.crop;
-    differs.then(|| {
-        format!(
-            "the crop differs: port {:?}, naive {:?}",
-            port.crop, naive.crop
-        )
-    })
+    for at in 0..port.records.len().max(naive.records.len()) {
+        let [own, other] = [port, naive].map(|report| report.records.get(at));
+        if own != other {
+            let said = both(record(own), record(other));
+            return Some(format!("a record differs: {said}"));
+        }
+    }
+    let crop = |crop: Crop| format!("{} {} {} {}", crop.x, crop.y, crop.width, crop.height);
+    let said = both(crop(port.crop), crop(naive.crop));
+    (port.crop != naive.crop).then(|| format!("the crop differs: {said}"))
+}
+
+fn record(record: Option<&Record>) -> String {
+    let Some(record) = record else {
+        return "none".into();
+    };
+    let at = pair(Shift::new(record.x, record.y));
+    let (frame, disagreeing, compared) = (record.frame, record.disagreeing, record.compared);
+    format!("frame {frame} at {at}, {disagreeing} of {compared}")
 }
 
 /// The port's shifts and its report.
@@ -216,10 +227,10 @@ fn of_port(asked: &Asked) -> (Timed<Vec<i32>>, Timed<Report>) {
         rivalry,
     } = asked;
     let mut room = Room::new(*stack, options.bits, rivalry);
-    let (status, time) = watched("the port", || room.align(*stack, options));
+    let (status, time) = timed("the port", || room.align(*stack, options));
     assert_eq!(status, 0, "a stack that is not refused is aligned");
     let shifts = (room.shifts().to_vec(), time);
-    let (status, time) = watched("the report", || room.ask(*stack, options, rivalry));
+    let (status, time) = timed("the report", || room.ask(*stack, options, rivalry));
     assert_eq!(status, 0, "a stack that is not refused is reported on");
     (shifts, (room.told(), time))
 }
@@ -228,7 +239,7 @@ fn of_port(asked: &Asked) -> (Timed<Vec<i32>>, Timed<Report>) {
 fn of_original(asked: &Asked) -> Timed<Vec<i32>> {
     let stack = asked.stack;
     if !has_one(stack.percentiles) {
-        return watched("the original's parts", || {
+        return timed("the original's parts", || {
             recount::align_stack(stack, &asked.options)
         });
     }
@@ -236,7 +247,7 @@ fn of_original(asked: &Asked) -> Timed<Vec<i32>> {
     let frame = |frame| gray(Frame::new(asked.samples(frame), width, height));
     let frames: Vec<_> = (0..asked.frames()).map(frame).collect();
     let options = options_of(&asked.options, stack.percentiles);
-    let (shifts, time) = watched("the original", || {
+    let (shifts, time) = timed("the original", || {
         mtb_align::align_stack(&frames, stack.reference, &options)
     });
     let shifts = shifts.expect("a stack that is not refused is aligned");
@@ -248,8 +259,7 @@ fn of_original(asked: &Asked) -> Timed<Vec<i32>> {
 
 #[cfg(test)]
 mod tests {
-    use naive::geometry::Crop;
-    use port::{ALONE, CONTESTED, REFERENCE, Record};
+    use port::{ALONE, CONTESTED, REFERENCE};
 
     use super::*;
 
@@ -300,7 +310,7 @@ mod tests {
                 all[at].1[place] += 5;
                 let said = answers(&all, &report()).difference().expect("a difference");
                 let shift =
-                    |shifts: &[i32]| format!("({}, {})", shifts[2 * frame], shifts[2 * frame + 1]);
+                    |shifts: &[i32]| format!("{},{}", shifts[2 * frame], shifts[2 * frame + 1]);
                 assert!(
                     said.starts_with(&format!("frame {frame} differs: ")),
                     "{said}"
@@ -320,10 +330,16 @@ mod tests {
         let said = |naive: &Report| answers(&all, naive).difference().expect("a difference");
         let mut naive = report();
         naive.verdicts[1] = ALONE;
-        assert!(said(&naive).starts_with("frame 1 differs in its report: port verdict 3"));
+        assert_eq!(
+            said(&naive),
+            "the verdict on frame 1 differs: port contested; naive alone"
+        );
         let mut naive = report();
         naive.records.pop();
-        assert!(said(&naive).ends_with("with 2 rivals, naive verdict 3 with 1"));
+        assert_eq!(
+            said(&naive),
+            "a record differs: port frame 1 at 9,2, 3 of 400; naive none"
+        );
         for is_first in [true, false] {
             let mut naive = report();
             let record = &mut naive.records[1];
@@ -331,10 +347,15 @@ mod tests {
                 true => &mut record.disagreeing,
                 false => &mut record.compared,
             } += 1;
-            assert!(said(&naive).starts_with("frame 1 differs in its report"));
+            assert!(
+                said(&naive).starts_with("a record differs: port frame 1 at 9,2, 3 of 400; naive")
+            );
         }
         let mut naive = report();
         naive.crop.height += 1;
-        assert!(said(&naive).starts_with("the crop differs"));
+        assert_eq!(
+            said(&naive),
+            "the crop differs: port 1 2 3 4; naive 1 2 3 5"
+        );
     }
 }

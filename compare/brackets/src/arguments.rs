@@ -16,7 +16,7 @@ shift, and prints the report. Frames count from 0 in the order of the files, whi
 of their exposures.
 
   --reference K       the frame that the others are laid on (0)
-  --bits B            a step goes up to 2^B - 1 pixels (3, for a tremble of 7)
+  --bits B            a step goes up to 2^B - 1 pixels, of 0 as of 1 (3, for a tremble of 7)
   --tolerance T       samples within T of the cut are not compared (4)
   --percentiles P,..  where each frame is cut: one for all, or one for each (50)
   --subsample         frames are halved by the upper left sample, not by the mean of four
@@ -29,7 +29,10 @@ of their exposures.
   --plain             prints fields for a program
   --no-naive          leaves the naive reading out
 
-Exit status: 0 if all agree, 1 if not, 2 if that could not be found out or not all was written.
+An option that is given twice counts as it was given last.
+
+Exit status: 0 if all agree, 1 if not, 2 if that could not be found out, or not all was printed
+or written.
 compare/README.md says more, docs/TERMS.md how to choose the numbers.
 ";
 
@@ -61,7 +64,7 @@ pub fn read(words: impl Iterator<Item = OsString>) -> Result<Wanted, String> {
     while let Some(word) = words.next() {
         let option = word
             .to_str()
-            .filter(|word| !only_files && word.starts_with("--"));
+            .filter(|word| !only_files && (word.starts_with("--") || *word == "-h"));
         let Some(option) = option else {
             arguments.files.push(word.into());
             continue;
@@ -69,7 +72,7 @@ pub fn read(words: impl Iterator<Item = OsString>) -> Result<Wanted, String> {
         let mut value = || words.next().ok_or(format!("{option} takes a value"));
         match option {
             "--" => only_files = true,
-            "--help" => return Ok(Wanted::Help),
+            "--help" | "-h" => return Ok(Wanted::Help),
             "--plain" => arguments.is_plain = true,
             "--no-naive" => arguments.has_naive = false,
             "--subsample" => given.is_subsampled = true,

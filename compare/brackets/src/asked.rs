@@ -88,6 +88,14 @@ impl<'a> Asked<'a> {
         }
     }
 
+    /// How its frames are halved, in a word.
+    pub fn halved(&self) -> &'static str {
+        match self.options.shrink {
+            Shrink::Average => "average",
+            Shrink::Subsample => "subsample",
+        }
+    }
+
     pub fn is_reference(&self, frame: usize) -> bool {
         frame == self.stack.reference
     }
@@ -126,7 +134,7 @@ mod tests {
             bits: Some(bits),
             ..Given::default()
         };
-        assert_eq!(terms(with_bits(0), 64, 64)[..2], [0, 0]);
+        assert_eq!(terms(with_bits(0), 64, 64)[..2], [0, 2]);
         assert_eq!(terms(with_bits(2), 64, 64)[..2], [2, 6]);
         assert_eq!(terms(with_bits(4), 64, 64)[..2], [4, 30]);
         assert_eq!(terms(with_bits(6), 64, 64)[..2], [6, 64]);

@@ -11,11 +11,21 @@ use crate::refused::words;
 
 /// Frames as a stack lends them, and where they are from.
 pub struct Bracket {
-    /// The name of each file, and how many frames it has.
-    pub files: Vec<(String, usize)>,
+    /// The name of each file, and the byte where each of its images begins.
+    pub files: Vec<(String, Vec<usize>)>,
     pub widths: Vec<usize>,
     pub heights: Vec<usize>,
     pub samples: Vec<u8>,
+}
+
+/// A name in one line.
+fn name(path: &Path) -> String {
+    let name = path.display().to_string();
+    let letters = name.chars().map(|letter| match letter.is_control() {
+        true => letter.escape_default().to_string(),
+        false => letter.to_string(),
+    });
+    letters.collect()
 }
 
 impl Bracket {
@@ -28,27 +38,23 @@ impl Bracket {
             samples: Vec::new(),
         };
         for path in paths {
-            let name = path.display().to_string();
-            let frames = bracket.add(path).map_err(|why| format!("{name}: {why}"))?;
-            bracket.files.push((name, frames));
+            let name = name(path);
+            let images = bracket.add(path).map_err(|why| format!("{name}: {why}"))?;
+            bracket.files.push((name, images));
         }
         Ok(bracket)
     }
 
-    /// The images of one more file, of which there is at least one; how many there are.
-    fn add(&mut self, path: &Path) -> Result<usize, String> {
-        let (begin, before) = (self.samples.len(), self.widths.len());
+    /// The images of one more file, of which there is at least one; where they begin.
+    fn add(&mut self, path: &Path) -> Result<Vec<usize>, String> {
+        let begin = self.samples.len();
         let mut opened = File::open(path).map_err(|why| why.to_string())?;
         let read = opened.read_to_end(&mut self.samples);
         let length = read.map_err(|why| why.to_string())?;
 
         // The samples of each image close up to those before it, over the headers.
-        let (mut at, mut end) = (0, begin);
+        let (mut at, mut end, mut images) = (0, begin, Vec::new());
         while at == 0 || at < length {
-            if self.widths.len() == MOST_FRAMES {
-                let words = words(TOO_MANY_FRAMES);
-                return Err(format!("byte {at}: {words} (refusal {TOO_MANY_FRAMES})"));
-            }
             let file = &self.samples[begin..];
             let [mut width, mut height, mut start, mut next] = [0; 4];
             let image = [&mut width, &mut height, &mut start, &mut next];
@@ -56,14 +62,31 @@ impl Bracket {
                 0 => (),
                 refusal => return Err(unread(file, at, refusal)),
             }
+            if self.widths.len() == MOST_FRAMES {
+                let words = words(TOO_MANY_FRAMES);
+                return Err(format!(
+                    "the image at byte {at} is one too many: {words} (refusal {TOO_MANY_FRAMES})"
+                ));
+            }
             self.widths.push(width);
             self.heights.push(height);
             self.samples.copy_within(begin + start..begin + next, end);
             end += next - start;
+            images.push(at);
             at = next;
         }
         self.samples.truncate(end);
-        Ok(self.widths.len() - before)
+        Ok(images)
+    }
+
+    /// Where a frame is from.
+    pub fn place(&self, frame: usize) -> String {
+        let of_file = |(name, images): &(String, Vec<usize>)| {
+            let of_image = |at: &usize| format!("{name} at byte {at}");
+            images.iter().map(of_image).collect::<Vec<_>>()
+        };
+        let mut places = self.files.iter().flat_map(of_file);
+        places.nth(frame).unwrap_or_default()
     }
 }
 

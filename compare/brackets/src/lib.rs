@@ -16,5 +16,6 @@ mod png;
 pub mod refused;
 pub mod sentences;
 pub mod sources;
+pub mod stepped;
 pub mod watch;
 mod window;

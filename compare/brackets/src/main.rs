@@ -13,16 +13,12 @@ use brackets::watch::watched;
 use brackets::{people, plain, sources};
 
 fn main() -> ExitCode {
-    if let Some(list) = env::var_os(sources::LIST)
-        && !sources::are_as_listed(list.as_ref())
-    {
-        return ExitCode::from(sources::STALE);
-    }
-    let done = match arguments::read(env::args_os().skip(1)) {
+    let words = || env::args_os().skip(1);
+    let done = sources::build_if_changed(words()).and_then(|()| match arguments::read(words()) {
         Ok(Wanted::Help) => print(USAGE).map(|()| true),
         Ok(Wanted::Run(arguments)) => run(&arguments),
         Err(why) => Err(format!("{why}\n{USAGE}")),
-    };
+    });
     match done {
         Ok(true) => ExitCode::SUCCESS,
         Ok(false) => ExitCode::from(1),
@@ -35,26 +31,27 @@ fn main() -> ExitCode {
 
 /// Whether all agree.
 fn run(arguments: &Arguments) -> Result<bool, String> {
-    let bracket = Bracket::read(&arguments.files)?;
+    let bracket = watched("reading", || Bracket::read(&arguments.files))?;
     let percentiles = arguments.given.percentiles(bracket.widths.len())?;
     let asked = arguments.given.asked(&bracket, &percentiles);
-    answers::check(&asked)?;
+    answers::check(&asked, &bracket)?;
     let mut folder = match &arguments.out {
         Some(path) => Some(Folder::open(path)?),
         None => None,
     };
     let answers = Answers::of(&asked, arguments.has_naive);
-    let text = match arguments.is_plain {
+    let text = watched("what is said of each frame", || match arguments.is_plain {
         true => plain::text(&bracket, &asked, &answers),
         false => people::text(&bracket, &asked, &answers),
-    };
+    });
     print(&text)?;
     if let Some(folder) = &mut folder {
-        let (files, _) = watched("the pictures", || out::files(&asked, &answers.report));
-        folder.write(&files)?;
+        let files = watched("the pictures", || out::files(&asked, &answers.report));
+        watched("writing", || folder.write(&files))?;
         let (count, path) = (files.len(), folder.path().display());
         print(&match arguments.is_plain {
             true => format!("written {count} {path}\n"),
+            false if count == 1 => format!("written: 1 file to {path}\n"),
             false => format!("written: {count} files to {path}\n"),
         })?;
     }

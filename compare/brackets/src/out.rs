@@ -1,16 +1,17 @@
 //! What is written: each frame as it lies on the others, cropped, and a picture of each window.
 
-use std::fs;
-use std::io;
+use std::fs::{self, File};
+use std::io::{self, Write};
 use std::path::{Path, PathBuf};
 
 use naive::report::Report;
+use port::Frame;
 use port::files::write_pgm;
 use port::moves::shifted;
-use port::{Frame, Shift};
 
 use crate::asked::Asked;
 use crate::picture;
+use crate::stepped::{Stepped, shift_of};
 
 /// A folder that this run made, or found empty. What is written to it goes again unless all
 /// is.
@@ -51,8 +52,11 @@ impl Folder {
     pub fn write(&mut self, files: &[(String, Vec<u8>)]) -> Result<(), String> {
         for (name, bytes) in files {
             let path = self.path.join(name);
+            let failed = |why: io::Error| format!("{}: {why}", path.display());
+            // What somebody else has put there meanwhile stays.
+            let mut file = File::create_new(&path).map_err(failed)?;
             self.written.push(path.clone());
-            fs::write(&path, bytes).map_err(|why| format!("{}: {why}", path.display()))?;
+            file.write_all(bytes).map_err(failed)?;
         }
         self.is_whole = true;
         Ok(())
@@ -86,8 +90,8 @@ pub fn files(asked: &Asked, report: &Report) -> Vec<(String, Vec<u8>)> {
         }
     }
     for frame in 0..asked.frames() {
-        if !asked.is_reference(frame) {
-            let picture = picture::of_frame(asked, report, frame);
+        if let Some(stepped) = Stepped::of(asked, report, frame) {
+            let picture = picture::of_frame(asked, report, &stepped);
             files.push((format!("window_{frame:02}.png"), picture));
         }
     }
@@ -97,10 +101,13 @@ pub fn files(asked: &Asked, report: &Report) -> Vec<(String, Vec<u8>)> {
 /// The file of a frame, moved by its shift and cut to the crop.
 fn cropped(asked: &Asked, report: &Report, frame: usize) -> Vec<u8> {
     let (width, height) = asked.size();
-    let shift = Shift::new(report.shifts[2 * frame], report.shifts[2 * frame + 1]);
     let mut moved = vec![0; width * height];
     let samples = Frame::new(asked.samples(frame), width, height);
-    assert_eq!(shifted(samples, shift, &mut moved), 0, "a frame is moved");
+    assert_eq!(
+        shifted(samples, shift_of(report, frame), &mut moved),
+        0,
+        "a frame is moved"
+    );
 
     let crop = &report.crop;
     let [x, y, wide, high] = [crop.x, crop.y, crop.width, crop.height].map(|side| side as usize);
@@ -111,4 +118,24 @@ fn cropped(asked: &Asked, report: &Report, frame: usize) -> Vec<u8> {
     assert_eq!(status, 0, "a frame is written");
     file.truncate(length);
     file
+}
+
+#[cfg(test)]
+mod tests {
+    use super::*;
+
+    #[test]
+    fn what_somebody_else_has_put_there_stays() {
+        let path = std::env::temp_dir().join(format!("hall-out-{}", std::process::id()));
+        let files = ["one", "two"].map(|name| (name.to_string(), b"ours".to_vec()));
+        let mut folder = Folder::open(&path).expect("a new folder");
+        fs::write(path.join("two"), "theirs").expect("a file");
+        let why = folder.write(&files).expect_err("one is there");
+        assert!(why.ends_with("two: File exists (os error 17)"), "{why}");
+        drop(folder);
+        assert!(!path.join("one").exists());
+        assert_eq!(fs::read(path.join("two")).expect("theirs"), b"theirs");
+        assert!(Folder::open(&path).is_err_and(|why| why.contains("is not empty")));
+        fs::remove_dir_all(&path).expect("the folder goes");
+    }
 }

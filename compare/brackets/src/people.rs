@@ -1,14 +1,13 @@
 //! The report as lines for people.
 
-use std::fmt::Write;
-
 use naive::report::Report;
-use port::{ALONE, CONTESTED, REFERENCE, Shift, Shrink, WEAK};
+use port::{ALONE, CONTESTED, REFERENCE, Record, Shift, WEAK};
 
-use crate::answers::{Answers, ITS_PARTS, NAIVE, Naive, ORIGINAL, PORT, REPORT};
+use crate::answers::{Answers, ITS_PARTS, Naive, ORIGINAL, PORT};
 use crate::asked::Asked;
 use crate::bracket::Bracket;
-use crate::sentences::{Sentence, counts_of_step, distance, rivals, step};
+use crate::sentences::Sentence;
+use crate::stepped::{Stepped, shift_of};
 
 /// How many rivals a frame's line names.
 const NAMED: usize = 10;
@@ -35,11 +34,11 @@ pub fn text(bracket: &Bracket, asked: &Asked, answers: &Answers) -> String {
 fn files(bracket: &Bracket, asked: &Asked) -> String {
     let (width, height) = asked.size();
     let (mut text, mut first) = (String::new(), 0);
-    for (name, count) in &bracket.files {
-        let last = first + count - 1;
+    for (name, images) in &bracket.files {
+        let count = images.len();
         text += &match count {
             1 => format!("{name}: frame {first}"),
-            _ => format!("{name}: frames {first} to {last}"),
+            _ => format!("{name}: frames {first} to {}", first + count - 1),
         };
         text += &format!(", {width} by {height}\n");
         first += count;
@@ -56,18 +55,15 @@ fn terms(asked: &Asked) -> String {
             format!("percentiles {}", each.join(","))
         }
     };
-    let halved = match options.shrink {
-        Shrink::Average => "average",
-        Shrink::Subsample => "subsample",
-    };
     format!(
-        "terms: reference {}, bits {}, tolerance {}, {percentiles}, {halved}, reach {}, floor {}, margin {}\n",
+        "terms: reference {}, bits {}, tolerance {}, {percentiles}, {}, reach {}, floor {}, margin {}\n",
         stack.reference,
         options.bits,
         options.tolerance,
+        asked.halved(),
         rivalry.reach,
-        rivalry.floor,
-        rivalry.margin
+        grouped(rivalry.floor.into()),
+        grouped(rivalry.margin.into())
     )
 }
 
@@ -80,7 +76,8 @@ fn agreement(answers: &Answers) -> String {
     let mut line = format!("{} and {last} agree on every shift", first.join(", "));
     line += match answers.naive {
         Naive::Report => ", port and naive on every verdict, rival and the crop too",
-        Naive::Shifts => "",
+        Naive::Shifts => "; naive's report would take too long",
+        Naive::None => "; naive would take too long",
         Naive::LeftOut => "; naive is left out",
     };
     if by.contains(&ITS_PARTS) {
@@ -100,54 +97,53 @@ pub fn verdict(verdict: u8) -> &'static str {
 }
 
 fn of_frame(asked: &Asked, report: &Report, frame: usize) -> String {
-    if asked.is_reference(frame) {
+    let Some(stepped) = Stepped::of(asked, report, frame) else {
         return format!("frame {frame}: reference\n");
-    }
-    let shift = Shift::new(report.shifts[2 * frame], report.shifts[2 * frame + 1]);
-    let step = step(asked, report, frame);
-    let counts = counts_of_step(asked, report, frame);
-    let mut line = format!("frame {frame}: shift {}", pair(shift.x, shift.y));
+    };
+    let (shift, step) = (shift_of(report, frame), stepped.step);
+    let mut line = format!("frame {frame}: shift {}", pair(shift));
     if step != shift {
-        let neighbour = asked.neighbour(frame);
-        write!(line, " ({} from frame {neighbour})", pair(step.x, step.y)).expect("a string");
+        line += &format!(" ({} from frame {})", pair(step), stepped.on);
     }
-    write!(
-        line,
-        " {}, {} of {} compared disagree",
-        verdict(report.verdicts[frame]),
-        grouped(counts.disagreeing),
-        grouped(counts.compared)
-    )
-    .expect("a string");
-
-    let mut rivals = rivals(asked, report, frame);
-    rivals.sort_by_key(|rival| {
-        let [right, down] = [rival.x - step.x, rival.y - step.y].map(i64::from);
-        (distance(step, rival), right * right + down * down)
-    });
-    if !rivals.is_empty() {
-        let named = rivals.iter().take(NAMED);
-        let named: Vec<String> = named.map(|rival| pair(rival.x, rival.y)).collect();
-        let plural = if rivals.len() == 1 { "" } else { "s" };
-        line += &format!("; rival{plural} {}", named.join(" "));
-        if rivals.len() > NAMED {
-            line += &format!(" and {} more", grouped((rivals.len() - NAMED) as u64));
-        }
-    }
-    if let Some(sentence) = Sentence::of(asked, report, frame) {
-        line += "; ";
-        if let Sentence::OneSided { frame: of, .. } = sentence
-            && of != frame
-        {
-            line += &format!("of frame {of} ");
-        }
-        line += &sentence.to_string();
+    let verdict = verdict(report.verdicts[frame]);
+    let [disagreeing, compared] =
+        [stepped.counts.disagreeing, stepped.counts.compared].map(grouped);
+    line += &format!(" {verdict}, {disagreeing} of {compared} compared disagree");
+    line += &nearest(&stepped);
+    if let Some(sentence) = Sentence::of(asked, report, &stepped) {
+        line += &match sentence.about(frame) {
+            own if own == frame => format!("; {sentence}"),
+            other => format!("; of frame {other} {sentence}"),
+        };
     }
     line + "\n"
 }
 
-fn pair(x: i32, y: i32) -> String {
-    format!("{x},{y}")
+/// The rivals that lie nearest, and how many more there are.
+fn nearest(stepped: &Stepped) -> String {
+    let mut rivals: Vec<&Record> = stepped.rivals.iter().collect();
+    rivals.sort_by_key(|rival| {
+        let [right, down] = stepped.off(rival);
+        (stepped.distance(rival), right * right + down * down)
+    });
+    let named = rivals.iter().take(NAMED);
+    let named: Vec<String> = named
+        .map(|rival| pair(Shift::new(rival.x, rival.y)))
+        .collect();
+    let named = named.join(" ");
+    match rivals.len() {
+        0 => String::new(),
+        1 => format!("; rival {named}"),
+        2..=NAMED => format!("; rivals {named}"),
+        more => format!(
+            "; rivals {named} and {} more",
+            grouped((more - NAMED) as u64)
+        ),
+    }
+}
+
+pub fn pair(shift: Shift) -> String {
+    format!("{},{}", shift.x, shift.y)
 }
 
 /// A number with a comma before every three digits.
@@ -164,20 +160,17 @@ pub fn grouped(number: u64) -> String {
 }
 
 fn times(answers: &Answers) -> String {
-    let of = |name: &str| answers.times.iter().find(|(by, _)| *by == name);
-    let each = answers.times.iter();
-    let mut each: Vec<String> = each
-        .filter(|(by, _)| *by != NAIVE)
-        .map(|(by, time)| format!("{by} {}", readable(*time)))
-        .collect();
-    if let (Some((_, port)), Some((_, original))) = (of(PORT), of(ORIGINAL)) {
-        each[1] += &format!(", {:.1} times the port's", original / port);
-    }
-    debug_assert!(of(REPORT).is_some());
-    if let Some((by, time)) = of(NAIVE) {
-        each.push(format!("{by} {}", readable(*time)));
-    }
-    format!("time: {}\n", each.join("; "))
+    let of_port = answers.times.iter().find(|(by, _)| *by == PORT);
+    let each = answers.times.iter().map(|(by, time)| {
+        let said = format!("{by} {}", readable(*time));
+        match of_port {
+            Some((_, port)) if *by == ORIGINAL && *port >= 1e3 => {
+                format!("{said}, {:.1} times the port's", time / port)
+            }
+            _ => said,
+        }
+    });
+    format!("time: {}\n", each.collect::<Vec<_>>().join("; "))
 }
 
 /// Nanoseconds in a unit that has one to three digits before the point.

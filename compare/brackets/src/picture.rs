@@ -5,9 +5,9 @@ use naive::report::Report;
 
 use crate::asked::Asked;
 use crate::letters::{ADVANCE, LINE, points};
-use crate::people::{grouped, verdict};
+use crate::people::{grouped, pair, verdict};
 use crate::png::{Palette, png};
-use crate::sentences::{counts_of_step, rivals};
+use crate::stepped::Stepped;
 use crate::window::{Mark, Window};
 
 /// The greys of a picture, from black on, and the colours behind them.
@@ -83,29 +83,23 @@ fn width_of(text: &str) -> usize {
 }
 
 /// The file of a frame's picture.
-pub fn of_frame(asked: &Asked, report: &Report, frame: usize) -> Vec<u8> {
-    let window = Window::of(asked, report, frame);
-    let counts = counts_of_step(asked, report, frame);
+pub fn of_frame(asked: &Asked, report: &Report, stepped: &Stepped) -> Vec<u8> {
+    let window = Window::of(asked, stepped);
+    let [disagreeing, compared] =
+        [stepped.counts.disagreeing, stepped.counts.compared].map(grouped);
+    let verdict = verdict(report.verdicts[stepped.frame]);
     let title = [
+        format!("frame {} on frame {}: {verdict}", stepped.frame, stepped.on),
         format!(
-            "frame {frame} on frame {}: {}",
-            asked.neighbour(frame),
-            verdict(report.verdicts[frame])
-        ),
-        format!(
-            "step ({}, {}): {} of {} disagree",
-            window.step.x,
-            window.step.y,
-            grouped(counts.disagreeing),
-            grouped(counts.compared)
+            "step {}: {disagreeing} of {compared} disagree",
+            pair(stepped.step)
         ),
     ];
     let [least, most] = window.least_and_most();
-    let rivals = rivals(asked, report, frame).len();
     let legend = [
         format!("{} to {} pixels disagree", grouped(least), grouped(most)),
         "the step, and the shifts next to it".to_string(),
-        match rivals {
+        match stepped.rivals.len() {
             0 => "no rival".into(),
             1 => "1 rival".into(),
             more => format!("{} rivals", grouped(more as u64)),
@@ -115,10 +109,11 @@ pub fn of_frame(asked: &Asked, report: &Report, frame: usize) -> Vec<u8> {
             grouped(asked.rivalry.floor.into())
         ),
     ];
-    drawn(&window, &title, &legend)
+    let canvas = drawn(&window, &title, &legend);
+    png(canvas.width, &canvas.pixels, &palette())
 }
 
-fn drawn(window: &Window, title: &[String], legend: &[String; 4]) -> Vec<u8> {
+fn drawn(window: &Window, title: &[String], legend: &[String; 4]) -> Canvas {
     let side = window.side();
     let cell = (MEANT / side).clamp(4, 40);
     let bar = 4 * ROW; // as wide as the legend's bar of greys
@@ -147,10 +142,10 @@ fn drawn(window: &Window, title: &[String], legend: &[String; 4]) -> Vec<u8> {
         over.checked_div(most - least).unwrap_or(0) as u8
     };
     let place = |at: usize| corner(at % side, at / side);
-    for (at, (counts, mark)) in window.shifts.iter().enumerate() {
-        let colour = match mark {
-            Mark::Unseen => BLUE,
-            _ => grey(counts.disagreeing.clamp(least, most)),
+    for (at, seen) in window.shifts.iter().enumerate() {
+        let colour = match seen.is_enough {
+            true => grey(seen.counts.disagreeing),
+            false => BLUE,
         };
         canvas.fill(place(at), (cell, cell), colour);
     }
@@ -161,8 +156,8 @@ fn drawn(window: &Window, title: &[String], legend: &[String; 4]) -> Vec<u8> {
     } else {
         thick
     };
-    for (at, (_, mark)) in window.shifts.iter().enumerate() {
-        if *mark == Mark::Rival {
+    for (at, seen) in window.shifts.iter().enumerate() {
+        if seen.mark == Mark::Rival {
             canvas.ring(place(at), cell, thick_of_rival, RED);
         }
     }
@@ -190,7 +185,7 @@ fn drawn(window: &Window, title: &[String], legend: &[String; 4]) -> Vec<u8> {
         }
         canvas.write((x + bar + ROW, y + 1), line);
     }
-    png(width, &canvas.pixels, &palette())
+    canvas
 }
 
 /// A ring with a dot in it.
@@ -218,7 +213,8 @@ fn number_axes(canvas: &mut Canvas, window: &Window, cell: usize, (left, top): (
         if x % every == 0 {
             let text = x.to_string();
             let middle = left + at * cell + cell / 2;
-            let start = middle.saturating_sub(width_of(&text) / 2);
+            let last = canvas.width - width_of(&text);
+            let start = middle.saturating_sub(width_of(&text) / 2).min(last);
             canvas.fill((middle, top + side * cell), (1, 4), BLACK);
             canvas.write((start, top + side * cell + 6), &text);
         }
@@ -229,5 +225,38 @@ fn number_axes(canvas: &mut Canvas, window: &Window, cell: usize, (left, top): (
             let start = left - 8 - width_of(&text);
             canvas.write((start, middle - letter / 2), &text);
         }
+    }
+}
+
+#[cfg(test)]
+mod tests {
+    use super::*;
+    use crate::window::tests::example;
+
+    /// The corner and the inside of each square.
+    #[test]
+    fn squares_are_dark_where_few_disagree_and_marked() {
+        example(|asked, _, stepped| {
+            let window = Window::of(asked, stepped);
+            let texts = [(); 4].map(|()| String::new());
+            let canvas = drawn(&window, &texts[..2], &texts);
+            let (left, top, cell) = (EDGE + NUMBERS, 2 * EDGE + 2 * ROW, MEANT / 19);
+            let pixel = |x: usize, y: usize| canvas.pixels[y * canvas.width + x];
+            let [least, most] = window.least_and_most();
+            for (at, seen) in window.shifts.iter().enumerate() {
+                let (x, y) = (left + at % 19 * cell, top + at / 19 * cell);
+                let (corner, middle) = (pixel(x, y), pixel(x + cell / 2, y + cell / 2));
+                let over = seen.counts.disagreeing.saturating_sub(least);
+                let inside = match seen.is_enough {
+                    true => (over as f64 / (most - least) as f64 * 247.0) as u8,
+                    false => BLUE,
+                };
+                match seen.mark {
+                    Mark::Step => assert_eq!([corner, middle], [GREEN; 2]),
+                    Mark::Rival => assert_eq!([corner, middle], [RED, inside]),
+                    Mark::None => assert!(middle == inside && [inside, GREEN].contains(&corner)),
+                }
+            }
+        });
     }
 }

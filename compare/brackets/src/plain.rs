@@ -3,13 +3,12 @@
 
 use std::fmt::Write;
 
-use port::Shrink;
-
-use crate::answers::Answers;
+use crate::answers::{Answers, Naive};
 use crate::asked::Asked;
 use crate::bracket::Bracket;
 use crate::people::verdict;
-use crate::sentences::{Sentence, counts_of_step, rivals, step};
+use crate::sentences::Sentence;
+use crate::stepped::{Stepped, shift_of};
 
 pub fn text(bracket: &Bracket, asked: &Asked, answers: &Answers) -> String {
     let mut text = String::new();
@@ -24,9 +23,9 @@ fn put(
     answers: &Answers,
 ) -> Result<(), std::fmt::Error> {
     let mut first = 0;
-    for (name, count) in &bracket.files {
-        writeln!(text, "file {first} {count} {name}")?;
-        first += count;
+    for (name, images) in &bracket.files {
+        writeln!(text, "file {first} {} {name}", images.len())?;
+        first += images.len();
     }
     let (width, height) = asked.size();
     writeln!(text, "frames {} {width} {height}", asked.frames())?;
@@ -38,11 +37,7 @@ fn put(
     for percentile in stack.percentiles {
         write!(text, " {percentile}")?;
     }
-    let halved = match options.shrink {
-        Shrink::Average => "average",
-        Shrink::Subsample => "subsample",
-    };
-    writeln!(text, "\nhalved {halved}")?;
+    writeln!(text, "\nhalved {}", asked.halved())?;
     writeln!(text, "reach {}", rivalry.reach)?;
     writeln!(text, "floor {}", rivalry.floor)?;
     writeln!(text, "margin {}", rivalry.margin)?;
@@ -54,42 +49,42 @@ fn put(
         Some(difference) => writeln!(text, "differ {difference}")?,
     }
 
+    let of_naive = match answers.naive {
+        Naive::Report => "report",
+        Naive::Shifts => "shifts",
+        Naive::None => "too_long",
+        Naive::LeftOut => "left_out",
+    };
+    writeln!(text, "naive {of_naive}")?;
+
     let report = &answers.report;
     for frame in 0..asked.frames() {
-        let [x, y] = [report.shifts[2 * frame], report.shifts[2 * frame + 1]];
-        let verdict = verdict(report.verdicts[frame]);
-        if asked.is_reference(frame) {
-            writeln!(text, "frame {frame} {x} {y} {verdict}")?;
+        let (shift, verdict) = (shift_of(report, frame), verdict(report.verdicts[frame]));
+        write!(text, "frame {frame} {} {} {verdict}", shift.x, shift.y)?;
+        let Some(stepped) = Stepped::of(asked, report, frame) else {
+            writeln!(text)?;
             continue;
-        }
-        let (step, counts) = (
-            step(asked, report, frame),
-            counts_of_step(asked, report, frame),
-        );
-        let rivals = rivals(asked, report, frame);
-        let neighbour = asked.neighbour(frame);
+        };
+        let (step, counts) = (stepped.step, stepped.counts);
         writeln!(
             text,
-            "frame {frame} {x} {y} {verdict} {neighbour} {} {} {} {} {}",
+            " {} {} {} {} {} {}",
+            stepped.on,
             step.x,
             step.y,
             counts.disagreeing,
             counts.compared,
-            rivals.len()
+            stepped.rivals.len()
         )?;
-        for rival in rivals {
+        for rival in &stepped.rivals {
             writeln!(
                 text,
                 "rival {frame} {} {} {} {}",
                 rival.x, rival.y, rival.disagreeing, rival.compared
             )?;
         }
-        if let Some(sentence) = Sentence::of(asked, report, frame) {
-            let of = match sentence {
-                Sentence::OneSided { frame, .. } => frame,
-                _ => frame,
-            };
-            writeln!(text, "says {frame} {of} {sentence}")?;
+        if let Some(sentence) = Sentence::of(asked, report, &stepped) {
+            writeln!(text, "says {frame} {} {sentence}", sentence.about(frame))?;
         }
     }
     let crop = &report.crop;

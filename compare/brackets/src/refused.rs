@@ -3,6 +3,8 @@
 use port::Values;
 use port::refusals::{NO_SUCH_REFERENCE, SIZES_DIFFER};
 
+use crate::bracket::Bracket;
+
 const MTB_H: &str = include_str!("../../../crates/mtb_c/mtb.h");
 
 /// The comment that stands beside a number in the list of statuses.
@@ -20,12 +22,14 @@ pub fn words(number: u32) -> &'static str {
 }
 
 /// The same with the number, and with the values that come with it.
-pub fn sentence(number: u32, values: &Values) -> String {
+pub fn sentence(number: u32, values: &Values, bracket: &Bracket) -> String {
     let told = match number {
         SIZES_DIFFER => {
-            let [width, height, other_width, other_height, frame] = values;
+            let &[width, height, other_width, other_height, frame] = values;
+            let place = bracket.place(frame);
             format!(
-                ": frame {frame} is {other_width} by {other_height}, the one next to it {width} by {height}"
+                ": frame {frame}, {place}, is {other_width} by {other_height}, the one next to it \
+                 {width} by {height}"
             )
         }
         NO_SUCH_REFERENCE => {
@@ -59,12 +63,19 @@ mod tests {
 
     #[test]
     fn values_are_told() {
+        let bracket = Bracket {
+            files: vec![("one".into(), vec![0]), ("two".into(), vec![0, 653])],
+            widths: vec![],
+            heights: vec![],
+            samples: vec![],
+        };
         assert_eq!(
-            sentence(4, &[32, 20, 31, 20, 2]),
-            "sizes differ (refusal 4): frame 2 is 31 by 20, the one next to it 32 by 20"
+            sentence(4, &[32, 20, 31, 20, 2], &bracket),
+            "sizes differ (refusal 4): frame 2, two at byte 653, is 31 by 20, the one next to it \
+             32 by 20"
         );
         assert_eq!(
-            sentence(5, &[1, 1, 0, 0, 0]),
+            sentence(5, &[1, 1, 0, 0, 0], &bracket),
             "no such reference (refusal 5): 1 of 1 frame, which count from 0"
         );
     }

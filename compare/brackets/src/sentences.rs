@@ -2,19 +2,19 @@
 
 use std::fmt;
 
-use naive::difference::Counts;
 use naive::report::Report;
-use port::{ALONE, CONTESTED, Record, Shift, WEAK};
+use port::{ALONE, CONTESTED, Record, WEAK};
 use trials::advice;
 
 use crate::asked::Asked;
 use crate::packed::Packed;
+use crate::stepped::Stepped;
 
 /// They stand in docs/TERMS.md word for word.
 #[derive(Clone, Copy, Debug, PartialEq, Eq)]
 pub enum Sentence {
-    /// A frame, the neighbour or its own, with what can be compared all above the cut or all
-    /// below, and a percentile at which it is not.
+    /// What can be compared of a frame, or of the one that it steps against, lies all above
+    /// its cut or all below.
     OneSided {
         frame: usize,
         remedy: Remedy,
@@ -84,91 +84,48 @@ impl fmt::Display for Sentence {
     }
 }
 
-/// The step of a frame that is not the reference.
-pub fn step(asked: &Asked, report: &Report, frame: usize) -> Shift {
-    let neighbour = asked.neighbour(frame);
-    let along = |axis: usize| report.shifts[2 * frame + axis] - report.shifts[2 * neighbour + axis];
-    Shift::new(along(0), along(1))
-}
-
-/// The records of a frame but for the step's own.
-pub fn rivals(asked: &Asked, report: &Report, frame: usize) -> Vec<Record> {
-    let step = step(asked, report, frame);
-    let of_frame = |record: &&Record| record.frame as usize == frame;
-    let is_other = |record: &&Record| Shift::new(record.x, record.y) != step;
-    let records = report.records.iter();
-    records.filter(of_frame).filter(is_other).copied().collect()
-}
-
-/// Both counts of a frame's step: its record's, or where it has none, counted again.
-pub fn counts_of_step(asked: &Asked, report: &Report, frame: usize) -> Counts {
-    let step = step(asked, report, frame);
-    let is_step =
-        |record: &&Record| record.frame as usize == frame && Shift::new(record.x, record.y) == step;
-    match report.records.iter().find(is_step) {
-        Some(record) => Counts {
-            disagreeing: record.disagreeing.into(),
-            compared: record.compared.into(),
-        },
-        None => {
-            let neighbour = Packed::of(asked, asked.neighbour(frame));
-            neighbour.counts(&Packed::of(asked, frame), step)
-        }
-    }
-}
-
-/// How far a rival lies from a step, on the longer axis.
-pub fn distance(step: Shift, rival: &Record) -> u32 {
-    rival.x.abs_diff(step.x).max(rival.y.abs_diff(step.y))
-}
-
 impl Sentence {
     /// The first that applies to a frame, if one does.
-    pub fn of(asked: &Asked, report: &Report, frame: usize) -> Option<Self> {
-        if asked.is_reference(frame) {
-            return None;
-        }
-        let neighbour = asked.neighbour(frame);
-        let verdict = report.verdicts[frame];
-        let of_pair = [frame, neighbour];
+    pub fn of(asked: &Asked, report: &Report, stepped: &Stepped) -> Option<Self> {
+        let of_pair = [stepped.frame, stepped.on];
         let percentiles = of_pair.map(|frame| asked.stack.percentiles[frame]);
         let is_far_apart = percentiles[0].abs_diff(percentiles[1]) > advice::MOST_APART;
+        let verdict = report.verdicts[stepped.frame];
         if verdict == ALONE {
             return if asked.rivalry.reach <= 1 {
                 Some(Sentence::NoReach)
             } else if is_far_apart {
                 Some(Sentence::FarApart)
             } else {
-                rests_on_others(asked, report, frame).then_some(Sentence::Total)
+                rests_on_others(asked, report, stepped.on).then_some(Sentence::Total)
             };
         }
-        let one_sided = |&frame: &usize| {
+        let one_sided = |frame| {
             let remedy = remedy(asked, frame)?;
             Some(Sentence::OneSided { frame, remedy })
         };
-        if let Some(found) = of_pair.iter().find_map(one_sided) {
+        if let Some(found) = of_pair.into_iter().find_map(one_sided) {
             return Some(found);
         }
         match verdict {
             _ if is_far_apart => Some(Sentence::FarApart),
             WEAK => Some(Sentence::TooFew),
-            CONTESTED if fits_badly(asked, report, frame) => Some(Sentence::NoFit),
-            CONTESTED => {
-                let step = step(asked, report, frame);
-                Some(contested(
-                    step,
-                    &rivals(asked, report, frame),
-                    asked.rivalry.reach,
-                ))
-            }
+            CONTESTED => Some(contested(stepped, asked.rivalry.reach)),
             _ => None,
+        }
+    }
+
+    /// The frame that a sentence on another is about.
+    pub fn about(self, frame: usize) -> usize {
+        match self {
+            Sentence::OneSided { frame, .. } => frame,
+            _ => frame,
         }
     }
 }
 
-/// Whether a frame on the way to the reference is not alone.
-fn rests_on_others(asked: &Asked, report: &Report, frame: usize) -> bool {
-    let mut at = asked.neighbour(frame);
+/// Whether a frame from this one to the reference is not alone.
+fn rests_on_others(asked: &Asked, report: &Report, mut at: usize) -> bool {
     while !asked.is_reference(at) {
         if report.verdicts[at] != ALONE {
             return true;
@@ -191,22 +148,21 @@ fn remedy(asked: &Asked, frame: usize) -> Option<Remedy> {
     }
 }
 
-/// Whether a step that is a rival disagrees in so much of what it compares that it is no match.
-fn fits_badly(asked: &Asked, report: &Report, frame: usize) -> bool {
-    let counts = counts_of_step(asked, report, frame);
-    advice::NO_MATCH * counts.disagreeing >= counts.compared
-}
-
-/// A contested step by where its rivals lie.
-fn contested(step: Shift, rivals: &[Record], reach: u32) -> Sentence {
-    if rivals
-        .iter()
-        .all(|rival| distance(step, rival) <= advice::NEAR)
-    {
+/// A contested step by how well it fits, and then by where its rivals lie.
+fn contested(stepped: &Stepped, reach: u32) -> Sentence {
+    let Stepped { counts, rivals, .. } = stepped;
+    if counts.compared == 0 {
+        return Sentence::TooFew;
+    }
+    if advice::NO_MATCH * counts.disagreeing >= counts.compared {
+        return Sentence::NoFit;
+    }
+    let is_near = |rival| stepped.distance(rival) <= advice::NEAR;
+    if rivals.iter().all(is_near) {
         return Sentence::Near;
     }
-    let apart = apart(step, rivals, reach);
-    let is_along = |rival: &&Record| rival.x.abs_diff(step.x) <= 1 || rival.y.abs_diff(step.y) <= 1;
+    let apart = apart(stepped, reach);
+    let is_along = |rival: &&Record| stepped.off(rival).into_iter().any(|off| off <= 1);
     match &apart[..] {
         [] => Sentence::Edge,
         some if some.iter().any(is_along) => Sentence::Pitch,
@@ -216,7 +172,8 @@ fn contested(step: Shift, rivals: &[Record], reach: u32) -> Sentence {
 
 /// The rivals that no run of rivals, each next to the one before, joins to the step or to
 /// the shifts next to it.
-fn apart(step: Shift, rivals: &[Record], reach: u32) -> Vec<&Record> {
+fn apart(stepped: &Stepped, reach: u32) -> Vec<&Record> {
+    let Stepped { step, rivals, .. } = stepped;
     let reach = reach as i32;
     let side = 2 * reach + 1;
     let place = |x: i32, y: i32| {
@@ -249,6 +206,9 @@ fn apart(step: Shift, rivals: &[Record], reach: u32) -> Vec<&Record> {
 
 #[cfg(test)]
 mod tests {
+    use naive::difference::Counts;
+    use port::Shift;
+
     use super::*;
 
     const TERMS: &str = include_str!("../../../docs/TERMS.md");
@@ -260,7 +220,7 @@ mod tests {
         }
     }
 
-    fn of(rivals: &[(i32, i32)]) -> Sentence {
+    fn of(disagreeing: u64, rivals: &[(i32, i32)]) -> Sentence {
         let record = |&(x, y): &(i32, i32)| Record {
             frame: 1,
             x,
@@ -268,17 +228,28 @@ mod tests {
             disagreeing: 0,
             compared: 0,
         };
-        let rivals: Vec<Record> = rivals.iter().map(record).collect();
-        contested(Shift::new(5, -3), &rivals, 14)
+        let stepped = Stepped {
+            frame: 1,
+            on: 0,
+            step: Shift::new(5, -3),
+            counts: Counts {
+                disagreeing,
+                compared: 1000,
+            },
+            rivals: rivals.iter().map(record).collect(),
+        };
+        contested(&stepped, 14)
     }
 
     #[test]
     fn a_contested_step_is_told_by_where_its_rivals_lie() {
-        assert_eq!(of(&[(7, -3), (5, -6)]), Sentence::Near);
-        assert_eq!(of(&[(13, -3), (-3, -3)]), Sentence::Pitch);
-        assert_eq!(of(&[(6, 5)]), Sentence::Pitch);
-        assert_eq!(of(&[(7, -3), (8, -4), (9, -5)]), Sentence::Edge);
-        assert_eq!(of(&[(7, -3), (9, -5)]), Sentence::Others);
-        assert_eq!(of(&[(7, -3), (9, -3)]), Sentence::Pitch);
+        assert_eq!(of(0, &[(7, -3), (5, -6)]), Sentence::Near);
+        assert_eq!(of(0, &[(13, -3), (-3, -3)]), Sentence::Pitch);
+        assert_eq!(of(0, &[(6, 5)]), Sentence::Pitch);
+        assert_eq!(of(0, &[(7, -3), (8, -4), (9, -5)]), Sentence::Edge);
+        assert_eq!(of(0, &[(7, -3), (9, -5)]), Sentence::Others);
+        assert_eq!(of(0, &[(7, -3), (9, -3)]), Sentence::Pitch);
+        assert_eq!(of(199, &[(13, -3)]), Sentence::Pitch);
+        assert_eq!(of(200, &[(13, -3)]), Sentence::NoFit);
     }
 }

@@ -1,6 +1,7 @@
 //! How long work takes, and word of work that takes long.
 
-use std::sync::{Mutex, Once};
+use std::io::{self, Write};
+use std::sync::{Mutex, MutexGuard, Once, PoisonError};
 use std::thread;
 use std::time::{Duration, Instant};
 
@@ -22,52 +23,54 @@ struct Work {
 }
 
 /// What is at work, on any thread.
-static AT_WORK: Mutex<Vec<Work>> = Mutex::new(Vec::new());
-
-fn at_work<T>(with: impl FnOnce(&mut Vec<Work>) -> T) -> T {
-    with(&mut AT_WORK.lock().expect("nobody panics with it"))
+fn at_work() -> MutexGuard<'static, Vec<Work>> {
+    static AT_WORK: Mutex<Vec<Work>> = Mutex::new(Vec::new());
+    AT_WORK.lock().unwrap_or_else(PoisonError::into_inner)
 }
 
 fn look() {
     loop {
         thread::sleep(LOOK);
-        at_work(|all| {
-            for work in all {
-                let so_far = work.start.elapsed();
-                if so_far >= work.next {
-                    eprintln!("hall: {}, {} s so far", work.what, so_far.as_secs());
-                    work.next = so_far + THEN;
-                }
+        for work in at_work().iter_mut() {
+            let so_far = work.start.elapsed();
+            if so_far >= work.next {
+                // Where nobody hears of it, the work goes on.
+                let (what, seconds) = (work.what, so_far.as_secs());
+                _ = writeln!(io::stderr(), "hall: {what}, {seconds} s so far");
+                work.next = so_far + THEN;
             }
-        });
+        }
     }
 }
 
-/// What the work gives, and the nanoseconds that the processor had for it, the least of the
-/// times that it was done. Standard error has a line once it takes more than a second.
-pub fn watched<T>(what: &'static str, mut work: impl FnMut() -> T) -> (T, f64) {
+/// Does the work. Standard error has a line once it takes more than a second.
+pub fn watched<T>(what: &'static str, work: impl FnOnce() -> T) -> T {
     static LOOKING: Once = Once::new();
     LOOKING.call_once(|| _ = thread::spawn(look));
-    let start = Instant::now();
-    at_work(|all| {
-        all.push(Work {
-            what,
-            start,
-            next: FIRST,
-        })
+    at_work().push(Work {
+        what,
+        start: Instant::now(),
+        next: FIRST,
     });
+    let made = work();
+    at_work().retain(|work| work.what != what);
+    made
+}
 
-    let start = processor_time();
-    let mut least = f64::INFINITY;
-    let made = loop {
-        let before = processor_time();
-        let made = work();
-        let after = processor_time();
-        least = least.min(after - before);
-        if after - start >= SHORT {
-            break made;
+/// The same with the nanoseconds that the processor had for it, the least of the times that it
+/// was done.
+pub fn timed<T>(what: &'static str, mut work: impl FnMut() -> T) -> (T, f64) {
+    watched(what, || {
+        let start = processor_time();
+        let mut least = f64::INFINITY;
+        loop {
+            let before = processor_time();
+            let made = work();
+            let after = processor_time();
+            least = least.min(after - before);
+            if after - start >= SHORT {
+                return (made, least);
+            }
         }
-    };
-    at_work(|all| all.retain(|work| work.what != what));
-    (made, least)
+    })
 }

@@ -50,6 +50,8 @@ fn known_moves_are_found_and_all_agree() {
             let fields = fields(&arguments, &[&file]);
             let naive = if width > 200 { "" } else { " naive" };
             assert_eq!(fields.one("agree"), format!("port original{naive}"));
+            let of_naive = if width > 200 { "left_out" } else { "report" };
+            assert_eq!(fields.one("naive"), of_naive);
             assert_eq!(fields.one("frames"), format!("4 {width} {height}"));
             for (frame, [x, y]) in totals(&bracket.moves, reference).into_iter().enumerate() {
                 let verdict = if frame == reference {
@@ -145,6 +147,17 @@ fn a_frame_where_nothing_is_seen_is_weak() {
         assert_eq!(fields.says(frame).as_deref(), Some(said));
         assert_eq!(fields.step(frame)[2..], [0, 0]);
     }
+}
+
+/// With no floor a step that compares nothing is a rival of every other, and no match.
+#[test]
+fn a_step_that_compares_nothing_says_nothing() {
+    let folder = Folder::new("nothing");
+    let file = folder.file("even.pgm", &image(&[7; 64 * 64], 64, 64).repeat(2));
+    let fields = fields(&["--floor", "0"], &[&file]);
+    assert_eq!(fields.frame(1).2, "contested");
+    let said = "too few pixels to say: change the light or the percentile";
+    assert_eq!(fields.says(1).as_deref(), Some(said));
 }
 
 #[test]

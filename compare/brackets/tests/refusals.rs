@@ -8,6 +8,7 @@ use std::path::Path;
 use std::process::{Command, Stdio};
 
 use made::*;
+use trials::camera::Shot;
 
 /// Status 2, nothing on standard output, and this on standard error.
 fn refused(arguments: &[&str], files: &[&Path], why: &str) {
@@ -86,18 +87,29 @@ fn a_bracket_that_is_none() {
     let folder = Folder::new("none");
     let two = [image(&[1; 12], 4, 3), image(&[1; 12], 3, 4)].concat();
     let unequal = folder.file("unequal.pgm", &two);
-    let why = "sizes differ (refusal 4): frame 1 is 3 by 4, the one next to it 4 by 3";
-    refused_and_unwritten(&folder, &[], &[&unequal], why);
-    let why = "sizes differ (refusal 4): frame 0 is 4 by 3, the one next to it 3 by 4";
-    refused_and_unwritten(&folder, &["--reference", "1"], &[&unequal], why);
+    let name = unequal.display();
+    let why = format!(
+        "sizes differ (refusal 4): frame 1, {name} at byte 23, is 3 by 4, the one next to it 4 by 3"
+    );
+    refused_and_unwritten(&folder, &[], &[&unequal], &why);
+    let why = format!(
+        "sizes differ (refusal 4): frame 0, {name} at byte 0, is 4 by 3, the one next to it 3 by 4"
+    );
+    refused_and_unwritten(&folder, &["--reference", "1"], &[&unequal], &why);
 
     let equal = |frames: usize| folder.file("equal.pgm", &image(&[1; 12], 4, 3).repeat(frames));
-    let why = format!(
-        "{}: byte {}: over 16 frames (refusal 6)",
-        folder.path("equal.pgm").display(),
-        16 * image(&[1; 12], 4, 3).len()
-    );
+    let (name, at) = (folder.path("equal.pgm"), 16 * 23);
+    let name = name.display();
+    let why = format!("{name}: the image at byte {at} is one too many: over 16 frames (refusal 6)");
     refused_and_unwritten(&folder, &[], &[&equal(17)], &why);
+    let mut with_line_feed = image(&[1; 12], 4, 3).repeat(16);
+    with_line_feed.push(b'\n');
+    let file = folder.file("equal.pgm", &with_line_feed);
+    let why = format!(
+        "{name}: the image at byte {at} cannot be read: a PGM header malformed or cut short, or a \
+         place past the file's end (refusal 13): no header goes on with a line feed at byte {at}"
+    );
+    refused_and_unwritten(&folder, &[], &[&file], &why);
     printed(&[], &[&equal(16)]);
     let equal = equal(2);
     let why = "no such reference (refusal 5): 2 of 2 frames, which count from 0";
@@ -182,6 +194,38 @@ fn a_disk_that_fills_up() {
         fs::read_dir(folder.path("out")).expect("a folder").count(),
         0
     );
+}
+
+/// A name that would begin a line of its own does not.
+#[test]
+fn a_name_stands_in_one_line() {
+    let folder = Folder::new("name");
+    let file = folder.file("a\nframe 1.pgm", &image(&[1, 2], 2, 1));
+    let fields = fields(&[], &[&file]);
+    assert!(fields.one("file").ends_with("a\\nframe 1.pgm"));
+    assert_eq!(fields.all("frame").len(), 1);
+}
+
+/// Work goes on where nobody hears how long it takes.
+#[test]
+fn progress_that_cannot_be_told_is_left_out() {
+    let folder = Folder::new("deaf");
+    let bracket = Shot {
+        width: 640,
+        height: 480,
+        exposures: &[8, 16],
+        ..SHOT
+    };
+    let file = folder.bracket("pads.pgm", &taken(&bracket, 5));
+    let full = fs::OpenOptions::new().write(true).open("/dev/full");
+    let mut command = Command::new(env!("CARGO_BIN_EXE_hall"));
+    command
+        .arg(&file)
+        .args(["--reach", "24"])
+        .stderr(full.expect("Linux has it"));
+    let output = command.output().expect("the command runs");
+    assert!(text(&output.stdout).contains("; naive "));
+    assert_eq!(output.status.code(), Some(0));
 }
 
 #[test]

@@ -1,6 +1,7 @@
 //! Which sentence of the command `hall` comes on which scene.
 
 use brackets::sentences::{ALL, Remedy, Sentence};
+use brackets::stepped::Stepped;
 use trials::advice;
 use trials::camera::scene::Scene;
 use trials::camera::{Bracket, Shot};
@@ -75,7 +76,8 @@ const MEDIAN: Terms = Terms {
 fn said(brackets: &[Bracket]) -> Vec<Option<Sentence>> {
     let said = |bracket| {
         let said = of_report(bracket, &MEDIAN, |asked, report| {
-            Sentence::of(asked, report, 1)
+            let stepped = Stepped::of(asked, report, 1)?;
+            Sentence::of(asked, report, &stepped)
         });
         said.map(|sentence| match sentence {
             Sentence::OneSided { remedy, .. } => Sentence::OneSided { frame: 0, remedy },

@@ -20,9 +20,11 @@ pub const NEAR: u32 = 3;
 /// One in so many of the compared pixels disagrees at a shift that is no match.
 pub const NO_MATCH: u64 = 5;
 
-/// The farthest that a search with so many bits goes, which is meant to be the tremble.
+/// The farthest that a search with so many bits goes, with none as with one, which is meant to
+/// be the tremble.
 pub const fn tremble(bits: u32) -> u32 {
     match 1u32.checked_shl(bits) {
+        Some(1) => 1,
         Some(power) => power - 1,
         None => u32::MAX,
     }
