@@ -23,7 +23,8 @@ fn main() -> ExitCode {
         Ok(true) => ExitCode::SUCCESS,
         Ok(false) => ExitCode::from(1),
         Err(why) => {
-            eprintln!("hall: {why}");
+            // Where that cannot be said either, the status says it.
+            _ = writeln!(io::stderr(), "hall: {why}");
             ExitCode::from(2)
         }
     }
