@@ -40,13 +40,48 @@ built_anew() {
   echo "hall: says the same from any folder, by bash and by a link, and is built anew where a source has changed"
 }
 
-# What is made of an archive that somebody names is not taken for the port afterwards.
-archive_named() {
+# An archive whose align_stack moves frame 1 by five columns more; else a copy, where there is no tool to make it.
+wrong_archive() {
+  local tool
   cp ../target/staticlib/libmtb_c.a "$room"
-  MTB_STATICLIB=$room ./hall "$bracket" --plain | without_times | cmp - "$room/said" || fail "says something else of a copy of the archive"
+  for tool in cc ar objcopy; do command -v "$tool" >/dev/null || return 1; done
+  objcopy --redefine-sym mtb_align_stack=true_align_stack "$room/libmtb_c.a"
+  cat >"$room/wrong.c" <<'END'
+#include "mtb.h"
+extern __typeof__(mtb_align_stack) true_align_stack;
+uint32_t mtb_align_stack(const size_t *widths, size_t widths_length, const size_t *heights, size_t heights_length,
+                         const uint8_t *percentiles, size_t percentiles_length,
+                         const uint8_t *samples, size_t samples_length, size_t reference,
+                         uint32_t bits, uint8_t tolerance, bool subsampled,
+                         int32_t *shifts, size_t shifts_length,
+                         uint8_t *bytes, size_t bytes_length, uint64_t *words, size_t words_length,
+                         size_t values[5]) {
+    uint32_t status = true_align_stack(widths, widths_length, heights, heights_length, percentiles, percentiles_length,
+                                       samples, samples_length, reference, bits, tolerance, subsampled,
+                                       shifts, shifts_length, bytes, bytes_length, words, words_length, values);
+    if (status == MTB_ACCEPTED) shifts[2] += 5;
+    return status;
+}
+END
+  cc -I ../crates/mtb_c -c "$room/wrong.c" -o "$room/wrong.o"
+  ar r "$room/libmtb_c.a" "$room/wrong.o"
+}
+
+# A port that is wrong is told, and what is made of an archive that somebody names is not taken for the port afterwards.
+archive_named() {
+  local wanted status=0
+  if wrong_archive 2>/dev/null; then
+    wanted='1 differ frame 1 differs: port 7,3; original 2,3; naive 2,3; report 2,3'
+  else
+    echo "hall with a wrong port: left out, no cc, ar or objcopy at hand"
+    wanted='0 '
+  fi
+  MTB_STATICLIB=$room ./hall "$bracket" --plain >"$room/named" || status=$?
+  [ "$status $(grep '^differ ' "$room/named" || true)" = "$wanted" ] || fail "says $status $(cat "$room/named") of another archive"
   ! is_current target/speed/hall.sources || fail "takes another archive's build for the port's"
   ./hall "$bracket" --plain | without_times | cmp - "$room/said" || fail "is not built anew behind another archive"
   is_current target/speed/hall.sources || fail "is to be built anew though nothing has changed"
+  echo "hall: tells where a wrong port differs, and is built anew behind another archive"
 }
 
 status_of() { # WANTED ARGUMENTS...

@@ -7,6 +7,7 @@ use std::path::{Path, PathBuf};
 use port::files::read_pgm;
 use port::refusals::{HEADER_MALFORMED, MOST_FRAMES, SAMPLES_MISSING, TOO_MANY_FRAMES};
 
+use crate::names::in_one_line;
 use crate::refused::words;
 
 /// Frames as a stack lends them, and where they are from.
@@ -16,16 +17,6 @@ pub struct Bracket {
     pub widths: Vec<usize>,
     pub heights: Vec<usize>,
     pub samples: Vec<u8>,
-}
-
-/// A name in one line.
-fn name(path: &Path) -> String {
-    let name = path.display().to_string();
-    let letters = name.chars().map(|letter| match letter.is_control() {
-        true => letter.escape_default().to_string(),
-        false => letter.to_string(),
-    });
-    letters.collect()
 }
 
 impl Bracket {
@@ -38,7 +29,7 @@ impl Bracket {
             samples: Vec::new(),
         };
         for path in paths {
-            let name = name(path);
+            let name = in_one_line(path);
             let images = bracket.add(path).map_err(|why| format!("{name}: {why}"))?;
             bracket.files.push((name, images));
         }

@@ -7,6 +7,7 @@ pub mod arguments;
 pub mod asked;
 pub mod bracket;
 mod letters;
+pub mod names;
 pub mod out;
 mod packed;
 pub mod people;

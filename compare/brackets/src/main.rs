@@ -8,6 +8,7 @@ use std::process::ExitCode;
 use brackets::answers::{self, Answers};
 use brackets::arguments::{self, Arguments, USAGE, Wanted};
 use brackets::bracket::Bracket;
+use brackets::names::in_one_line;
 use brackets::out::{self, Folder};
 use brackets::watch::watched;
 use brackets::{people, plain, sources};
@@ -49,7 +50,7 @@ fn run(arguments: &Arguments) -> Result<bool, String> {
     if let Some(folder) = &mut folder {
         let files = watched("the pictures", || out::files(&asked, &answers.report));
         watched("writing", || folder.write(&files))?;
-        let (count, path) = (files.len(), folder.path().display());
+        let (count, path) = (files.len(), in_one_line(folder.path()));
         print(&match arguments.is_plain {
             true => format!("written {count} {path}\n"),
             false if count == 1 => format!("written: 1 file to {path}\n"),

@@ -10,6 +10,7 @@ use port::files::write_pgm;
 use port::moves::shifted;
 
 use crate::asked::Asked;
+use crate::names::in_one_line;
 use crate::picture;
 use crate::stepped::{Stepped, shift_of};
 
@@ -24,14 +25,14 @@ pub struct Folder {
 
 impl Folder {
     pub fn open(path: &Path) -> Result<Self, String> {
-        let named = |why: io::Error| format!("{}: {why}", path.display());
+        let named = |why: io::Error| format!("{}: {why}", in_one_line(path));
         let is_own = match fs::create_dir(path) {
             Ok(()) => true,
             Err(why) if why.kind() == io::ErrorKind::AlreadyExists => false,
             Err(why) => return Err(named(why)),
         };
         if !is_own && fs::read_dir(path).map_err(named)?.next().is_some() {
-            let path = path.display();
+            let path = in_one_line(path);
             return Err(format!(
                 "{path}: is not empty, and nothing in it is written over"
             ));
@@ -52,7 +53,7 @@ impl Folder {
     pub fn write(&mut self, files: &[(String, Vec<u8>)]) -> Result<(), String> {
         for (name, bytes) in files {
             let path = self.path.join(name);
-            let failed = |why: io::Error| format!("{}: {why}", path.display());
+            let failed = |why: io::Error| format!("{}: {why}", in_one_line(&path));
             // What somebody else has put there meanwhile stays.
             let mut file = File::create_new(&path).map_err(failed)?;
             self.written.push(path.clone());

@@ -113,79 +113,78 @@ pub fn of_frame(asked: &Asked, report: &Report, stepped: &Stepped) -> Vec<u8> {
     png(canvas.width, &canvas.pixels, &palette())
 }
 
+/// How wide the legend's bar of greys is; what it says stands behind that and a gap.
+const BAR: usize = 4 * ROW;
+const BEHIND: usize = BAR + ROW;
+
 fn drawn(window: &Window, title: &[String], legend: &[String; 4]) -> Canvas {
     let side = window.side();
     let cell = (MEANT / side).clamp(4, 40);
-    let bar = 4 * ROW; // as wide as the legend's bar of greys
-    let inner = [
-        NUMBERS + side * cell,
-        title.iter().map(|line| width_of(line)).max().unwrap_or(0),
-        legend
-            .iter()
-            .map(|line| bar + ROW + width_of(line))
-            .max()
-            .unwrap_or(0),
-    ];
-    let width = 2 * EDGE + inner.into_iter().max().unwrap_or(0);
-    let top = EDGE + title.len() * ROW + EDGE;
+    let titles = title.iter().map(|line| width_of(line));
+    let legends = legend.iter().map(|line| BEHIND + width_of(line));
+    let inner = titles
+        .chain(legends)
+        .fold(NUMBERS + side * cell, usize::max);
+    let top = 2 * EDGE + title.len() * ROW;
     let below = top + side * cell + ROW + EDGE;
-    let mut canvas = Canvas::new(width, below + legend.len() * ROW + EDGE);
+    let mut canvas = Canvas::new(2 * EDGE + inner, below + legend.len() * ROW + EDGE);
     for (number, line) in title.iter().enumerate() {
         canvas.write((EDGE, EDGE + number * ROW), line);
     }
+    let corner = (EDGE + NUMBERS, top);
+    draw_window(&mut canvas, window, cell, corner);
+    number_axes(&mut canvas, window, cell, corner);
+    draw_legend(&mut canvas, legend, below);
+    canvas
+}
 
-    let left = EDGE + NUMBERS;
-    let corner = |column: usize, row: usize| (left + column * cell, top + row * cell);
+/// A square for each shift from this corner on, and what marks some.
+fn draw_window(canvas: &mut Canvas, window: &Window, cell: usize, (left, top): (usize, usize)) {
+    let side = window.side();
     let [least, most] = window.least_and_most();
     let grey = |disagreeing: u64| {
         let over = (disagreeing - least) * u64::from(GREYS - 1);
         over.checked_div(most - least).unwrap_or(0) as u8
     };
-    let place = |at: usize| corner(at % side, at / side);
+    let corner = |column: usize, row: usize| (left + column * cell, top + row * cell);
+    let thick = (cell / 7).max(1);
+    // What a ring would leave of a small square is not seen.
+    let thick_of_rival = match cell {
+        ..SMALL => cell.div_ceil(2),
+        _ => thick,
+    };
     for (at, seen) in window.shifts.iter().enumerate() {
         let colour = match seen.is_enough {
             true => grey(seen.counts.disagreeing),
             false => BLUE,
         };
-        canvas.fill(place(at), (cell, cell), colour);
-    }
-    let thick = (cell / 7).max(1);
-    // What a ring would leave of a small square is not seen.
-    let thick_of_rival = if cell < SMALL {
-        cell.div_ceil(2)
-    } else {
-        thick
-    };
-    for (at, seen) in window.shifts.iter().enumerate() {
+        let place = corner(at % side, at / side);
+        canvas.fill(place, (cell, cell), colour);
         if seen.mark == Mark::Rival {
-            canvas.ring(place(at), cell, thick_of_rival, RED);
+            canvas.ring(place, cell, thick_of_rival, RED);
         }
     }
     let middle = side / 2;
     if middle > 0 {
         canvas.ring(corner(middle - 1, middle - 1), 3 * cell, 1, GREEN);
     }
-    mark_step(&mut canvas, corner(middle, middle), cell, thick);
-    number_axes(&mut canvas, window, cell, (left, top));
+    mark_step(canvas, corner(middle, middle), cell, thick);
+}
 
-    for (number, line) in legend.iter().enumerate() {
-        let (x, y) = (EDGE, below + number * ROW);
-        let mark = ROW - 6;
-        let beside = x + bar - mark;
-        match number {
-            0 => {
-                for column in 0..bar {
-                    let grey = column * usize::from(GREYS - 1) / (bar - 1);
-                    canvas.fill((x + column, y), (1, mark), grey as u8);
-                }
-            }
-            1 => mark_step(&mut canvas, (beside, y), mark, 2),
-            2 => canvas.ring((beside, y), mark, 2, RED),
-            _ => canvas.fill((beside, y), (mark, mark), BLUE),
-        }
-        canvas.write((x + bar + ROW, y + 1), line);
+/// What the greys and the marks mean, a line each: greys, step, rivals, blue.
+fn draw_legend(canvas: &mut Canvas, legend: &[String; 4], top: usize) {
+    let side = ROW - 6;
+    let mark = |line: usize| (EDGE + BAR - side, top + line * ROW);
+    for column in 0..BAR {
+        let grey = column * usize::from(GREYS - 1) / (BAR - 1);
+        canvas.fill((EDGE + column, top), (1, side), grey as u8);
     }
-    canvas
+    mark_step(canvas, mark(1), side, 2);
+    canvas.ring(mark(2), side, 2, RED);
+    canvas.fill(mark(3), (side, side), BLUE);
+    for (number, line) in legend.iter().enumerate() {
+        canvas.write((EDGE + BEHIND, top + number * ROW + 1), line);
+    }
 }
 
 /// A ring with a dot in it.
