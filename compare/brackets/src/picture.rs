@@ -229,7 +229,11 @@ fn number_axes(canvas: &mut Canvas, window: &Window, cell: usize, (left, top): (
 
 #[cfg(test)]
 mod tests {
+    use naive::difference::Counts;
+    use port::Shift;
+
     use super::*;
+    use crate::window::Seen;
     use crate::window::tests::example;
 
     /// The corner and the inside of each square.
@@ -237,8 +241,7 @@ mod tests {
     fn squares_are_dark_where_few_disagree_and_marked() {
         example(|asked, _, stepped| {
             let window = Window::of(asked, stepped);
-            let texts = [(); 4].map(|()| String::new());
-            let canvas = drawn(&window, &texts[..2], &texts);
+            let canvas = plainly_drawn(&window);
             let (left, top, cell) = (EDGE + NUMBERS, 2 * EDGE + 2 * ROW, MEANT / 19);
             let pixel = |x: usize, y: usize| canvas.pixels[y * canvas.width + x];
             let [least, most] = window.least_and_most();
@@ -257,5 +260,59 @@ mod tests {
                 }
             }
         });
+    }
+
+    fn plainly_drawn(window: &Window) -> Canvas {
+        let texts = [(); 4].map(|()| String::new());
+        drawn(window, &texts[..2], &texts)
+    }
+
+    /// One dark square amid blue ones would look like a match.
+    #[test]
+    fn a_step_that_compares_too_little_is_blue_inside_its_mark() {
+        example(|asked, _, stepped| {
+            let mut asked = *asked;
+            asked.rivalry.floor = u32::MAX;
+            let window = Window::of(&asked, stepped);
+            assert_eq!(window.least_and_most(), [0, 0]);
+            let canvas = plainly_drawn(&window);
+            let (cell, at) = (MEANT / 19, 9);
+            let (x, y) = (EDGE + NUMBERS + at * cell, 2 * EDGE + 2 * ROW + at * cell);
+            let inside = cell / 7 + 1; // behind the ring, before the dot
+            assert_eq!(
+                canvas.pixels[(y + inside) * canvas.width + x + inside],
+                BLUE
+            );
+        });
+    }
+
+    /// At steps where the last column has a number, it ends at the edge and does not go on at
+    /// the other one, where nothing stands.
+    #[test]
+    fn numbers_stay_within_the_picture() {
+        let shifts = |side: usize| {
+            (0..side * side).map(|_| Seen {
+                counts: Counts {
+                    disagreeing: 0,
+                    compared: 1,
+                },
+                is_enough: true,
+                mark: Mark::None,
+            })
+        };
+        for x in [-8_191, -36, 0, 36, 8_191] {
+            let window = Window {
+                step: Shift::new(x, -x),
+                reach: 64,
+                shifts: shifts(129).collect(),
+            };
+            let canvas = plainly_drawn(&window);
+            let rows = canvas.pixels.chunks(canvas.width);
+            let at_left = rows.map(|row| row[..EDGE / 2].to_vec()).collect::<Vec<_>>();
+            assert!(
+                at_left.concat().iter().all(|pixel| *pixel == WHITE),
+                "step {x}"
+            );
+        }
     }
 }
