@@ -1,1 +1,3 @@
 // What holds of the definitions stands in specs/.
+
+#![tactic(auto)]

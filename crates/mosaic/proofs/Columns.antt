@@ -32,14 +32,7 @@ module _ {s old new : List ℕ} {from i j k : ℕ} (q : Taken s from i j old new
         are = both_more old i j (second s from) (second s (from + 1)) k l q.are a (b ∙ ap (λ (m : ℕ). get_or s m 0) right);
       }
 
-  -- a row of even width has as many odd columns as even ones
-  pub taken_even : (width : ℕ) → width % 2 ≡ 0 → k ≡ width / 2 → new ≡ both old i j (every_second s ((width + 1) / 2) from) (every_second s (width / 2) (from + 1))
-  taken_even width e p =
-      let left : k ≡ (width + 1) / 2 = omega arith in
-      let right : k ≡ width / 2 = omega arith in
-      q.are ∙ ap₂ (λ (m n : ℕ). both old i j (every_second s m from) (every_second s n (from + 1))) left right
-
-  -- and one of odd width ends with one even column more
+  -- a row of odd width ends with one even column more
   pub taken_odd : (width : ℕ) {v : ℕ} → width % 2 ≡ 1 → k ≡ width / 2 → i + k < j → v ≡ get_or s (from + 2 * k) 0
       → set new (i + k) v ≡ both old i j (every_second s ((width + 1) / 2) from) (every_second s (width / 2) (from + 1))
   taken_odd width {v} e p l a =

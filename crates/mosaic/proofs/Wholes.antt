@@ -56,9 +56,6 @@ module _ (w h : ℕ) (s : List ℕ) where
     pub long : length new ≡ w * h
     pub stand : (x v : ℕ) → x < w → v < y → get_or new (place_of w h x v) 0 ≡ sample s w x v
 
-  pub none_apart : (old : List ℕ) → length old ≡ w * h → Apart old 0
-  none_apart old e = record { long = e; stand = λ x v a b. absurd (not-suc-le-zero b) }
-
   module _ {old : List ℕ} {y : ℕ} (q : Apart old y) (l : y < h) where
     abbrev evens : List ℕ
     evens = every_second s ((w + 1) / 2) (y * w)

@@ -1,4 +1,6 @@
 // A two by two mosaic taken apart into its four planes and put together again, and where each plane stands.
+#![tactic(auto)]
+
 mod rows;
 
 ghost use Rattle.std.specs.Prelude.{◌≡◌, ◌≤◌, length};
@@ -12,7 +14,7 @@ use rows::{put_rows, take_rows};
 const LONGEST_SIDE: usize = 8192;
 
 // Why a call is refused.
-#[derive(Drop)]
+#[derive(Clone, Copy)]
 pub enum MosaicError {
     Side,
     Length,
@@ -30,7 +32,7 @@ impl MosaicError {
     }
 }
 
-#[derive(Drop)]
+#[derive(Clone, Copy)]
 pub enum MosaicAnswer {
     Done,
     Refused(MosaicError),
@@ -47,7 +49,7 @@ fn side_over(width: usize, height: usize) -> bool
 }
 
 // A plane: its sides, of which either may be 0, and where it starts in the list of all four.
-#[derive(Drop)]
+#[derive(Clone, Copy)]
 pub struct Plane {
     pub width: usize,
     pub height: usize,
@@ -78,7 +80,7 @@ impl Plane {
 }
 
 // The four planes in their order, by the parity of their rows, then of their columns.
-#[derive(Drop)]
+#[derive(Clone, Copy)]
 pub struct Planes {
     pub even_even: Plane,
     pub even_odd: Plane,
@@ -86,7 +88,7 @@ pub struct Planes {
     pub odd_odd: Plane,
 }
 
-#[derive(Drop)]
+#[derive(Clone, Copy)]
 pub enum PlanesAnswer {
     Laid(Planes),
     Refused(MosaicError),

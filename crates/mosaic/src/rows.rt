@@ -8,7 +8,7 @@ ghost use Rattle.mosaic.specs.Rows.{every_second, woven};
 use super::planes_of;
 
 // Where the samples of a row of the mosaic stand in the planes: its even columns from one place on, its odd ones from another.
-#[derive(Drop)]
+#[derive(Clone, Copy)]
 struct Row {
     evens: usize,
     odds: usize,

@@ -7,7 +7,6 @@ pub mod Halves
 pub mod Lanes
 pub mod Nine
 pub mod Pixels
-pub mod Quiet
 pub mod RowWalk
 pub mod Rows
 pub mod Surveyed

@@ -3,18 +3,17 @@
 use mathlib.Core.Path.{◌≡◌, refl, sym, ap, ◌∙◌}
 use mathlib.Core.Bool.{Bool, true, false, cond}
 use mathlib.Core.List.{List, [], ◌∷◌}
-use Prim.Native.Nat.{ℕ, zero, suc, ◌+◌, ◌<◌, zero-le}
+use Prim.Native.Nat.{ℕ, suc, ◌+◌, ◌<◌, zero-le}
 use native.Mathlib.Numerals.{add-one}
 use native.Mathlib.Omega.{arith}
 use borrow.Author.Tests.{lt-ltb, le-ltb, ltb-false, eq-eqb, ne_eqb}
-use lib.Dec.{ltb, eqb, lit≤}
+use lib.Dec.{ltb, eqb}
 use lib.IntN.{ℤ, pos, negsuc}
 use lib.ListN.{length, drop, get_or, get_or-map}
 use lib.Seq.{drop-cons}
 use Rattle.definitions.specs.Geometry.{Shift, origin, offset}
 use Rattle.definitions.specs.Align.{candidates, nine, least_from, earliest_least, refine, up_to_zero, tried, refined}
 use Rattle.laws.specs.search.Least.{nine_nine}
-use Rattle.laws.specs.search.StepBounds.{Within}
 use Rattle.mtb_align.specs.declared.align.Candidate.{Candidate}
 use Rattle.mtb_align.specs.declared.geometry.Shift as code
 use Rattle.mtb_align.specs.Answers.{shift_in, stepped_in}
@@ -32,18 +31,6 @@ table =
 
 abbrev pub candidate : ℕ → code.Shift
 candidate i = get_or table i (at (pos 0) (pos 0))
-
-pub candidate_within : (i : ℕ) → Within 1 (shift_in (candidate i))
-candidate_within zero = record { across = lit≤ tt; down = lit≤ tt }
-candidate_within (suc zero) = record { across = lit≤ tt; down = lit≤ tt }
-candidate_within (suc (suc zero)) = record { across = lit≤ tt; down = lit≤ tt }
-candidate_within (suc (suc (suc zero))) = record { across = lit≤ tt; down = lit≤ tt }
-candidate_within (suc (suc (suc (suc zero)))) = record { across = lit≤ tt; down = lit≤ tt }
-candidate_within (suc (suc (suc (suc (suc zero))))) = record { across = lit≤ tt; down = lit≤ tt }
-candidate_within (suc (suc (suc (suc (suc (suc zero)))))) = record { across = lit≤ tt; down = lit≤ tt }
-candidate_within (suc (suc (suc (suc (suc (suc (suc zero))))))) = record { across = lit≤ tt; down = lit≤ tt }
-candidate_within (suc (suc (suc (suc (suc (suc (suc (suc zero)))))))) = record { across = lit≤ tt; down = lit≤ tt }
-candidate_within (suc (suc (suc (suc (suc (suc (suc (suc (suc n))))))))) = record { across = lit≤ tt; down = lit≤ tt }
 
 -- ---- the search
 

@@ -17,9 +17,6 @@ pub record Walking (h : ℕ) (z : ℤ) (y : ℕ) : Type 0 where
   pub within : y ≤ h
   pub none_before : min (y - ahead z) (h - behind z) ≡ 0
 
-pub walk_starts : (h : ℕ) (z : ℤ) → Walking h z 0
-walk_starts h z = record { within = omega arith; none_before = omega arith }
-
 module _ (h : ℕ) (z : ℤ) {y : ℕ} (w : Walking h z y) where
   pub walk_inside : y < h → (v : ℕ) → source y z h ≡ inside v → Covering h z y v
   walk_inside l v q = ⊎_elim

@@ -17,7 +17,7 @@ use Rattle.definitions.specs.Geometry as geometry
 use Rattle.definitions.specs.Shrink.{side_at, level_of}
 use Rattle.definitions.specs.Bitmap.{bitmap_words, total}
 use Rattle.definitions.specs.Difference as difference
-use Rattle.definitions.specs.Align.{Stack, exposure, bitmaps_at, counts_at, neighbour, step_of, shift_of, shifts, step_words, stack_words}
+use Rattle.definitions.specs.Align.{Stack, exposure, bitmaps_at, counts_at, neighbour, step_of, shift_of, step_words, stack_words}
 use Rattle.definitions.specs.Refusals.{FreeUpTo}
 use Rattle.definitions.specs.Report.{frame_counts}
 use Rattle.laws.specs.bitmaps.Bands.{band_part, band_none}
@@ -32,7 +32,7 @@ use Rattle.mtb_align.specs.declared.difference.Counts.{Counts}
 use Rattle.mtb_align.specs.declared.walk.Frames.{Frames}
 use Rattle.mtb_align.specs.Answers.{counts_in}
 use Rattle.mtb_align.specs.Search.{map_at, TwoPairs, pair_counts}
-use Rattle.mtb_align.specs.Stack.{stack_in, Framed, Ready, four_in, listed_at, Placed}
+use Rattle.mtb_align.specs.Stack.{stack_in, Framed, four_in, listed_at, Placed}
 use Rattle.mtb_align.specs.Survey.{sample_of}
 use Rattle.mtb_align.proofs.Four.{four_front, four_free, four_pairs, four_counts}
 use Rattle.mtb_align.proofs.Taken.{maps_fit}
@@ -134,12 +134,6 @@ module _ (a : Stack) {list : List ℤ} (p : Placed a list) where
 
 pub step_near : (a : Stack) → Small a → (k : ℕ) {s : geometry.Shift} → s ≡ step_of a k → Within 65536 s
 step_near a small k e = subst (Within 65536) (sym e) (within_wider (omega arith) (step_of_small a small k))
-
--- ---- once the walk is made
-
--- what the survey needs is part of what the walk needs
-pub framed : {f : Frames} {percentiles samples : List ℕ} {bytes words v : ℕ} → Ready f percentiles samples bytes words → v ≡ words → Framed f percentiles samples v
-framed {f} {percentiles} {samples} r e = subst (Framed f percentiles samples) (sym e) r.framed
 
 -- the front of a list, element by element
 pub front_copied : (n : ℕ) (l : List ℕ) → n ≤ length l → build n (λ (k : ℕ). get_or l (0 + k) 0) ≡ take n l

@@ -1,10 +1,9 @@
--- A frame as the code takes it from the samples of all: it lies within them, it is whole, and it is the stack's.
-use mathlib.Core.Path.{◌≡◌, ap, ◌∙◌}
+-- A frame as the code takes it from the samples of all: it lies within them, and it is the stack's.
+use mathlib.Core.Path.{◌≡◌, ap}
 use mathlib.Core.List.{List}
 use Prim.Native.Nat.{ℕ, ◌+◌, ◌-◌, ◌*◌, ◌<◌, ◌≤◌}
 use native.Mathlib.Omega.{arith}
-use lib.ListN.{length, get_or, take, drop, length-drop}
-use lib.Seq.{length-take-le}
+use lib.ListN.{length, get_or, take, drop}
 use Rattle.definitions.specs.Align.{Exposure, exposure, step_words}
 use Rattle.laws.specs.images.Sizes.{row_inside}
 use Rattle.laws.specs.search.Walk.{need_two}
@@ -17,12 +16,6 @@ module _ {f : Frames} {percentiles samples : List ℕ} {words : ℕ} (q : Framed
 
   pub frame_inside : (j : ℕ) → j < f.count → j * (f.width * f.height) + f.width * f.height ≤ length samples
   frame_inside j l = omega (arith, q.all, row_inside size f.count j l)
-
-  pub frame_whole : (j : ℕ) → j < f.count
-      → let n = f.width * f.height in length (take (j * n + n - j * n) (drop (j * n) samples)) ≡ n
-  frame_whole j l =
-      length-take-le (j * size + size - j * size) (drop (j * size) samples) (omega (arith, frame_inside j l, length-drop (j * size) samples))
-      ∙ omega arith
 
   -- there is room for the bitmaps of two
   pub maps_fit : 1 < f.count → step_words f.width f.height ≤ words

@@ -13,7 +13,7 @@ use Rattle.definitions.specs.Align.{Stack, neighbour, walk, step_of, shift_of, s
 use Rattle.definitions.specs.Refusals.{FreeUpTo}
 use Rattle.laws.specs.checks.ChecksStack.{StackInOrder}
 use Rattle.laws.specs.images.Crop.{listed_length}
-use Rattle.laws.specs.search.Free.{free_same, free_then}
+use Rattle.laws.specs.search.Free.{free_then}
 use Rattle.laws.specs.general.Lists.{build_at, build_length}
 use Rattle.laws.specs.search.Walk.{neighbour_among, walk_length, walked, shift_by_neighbour, put, put_all, put_length, put_elsewhere, put_walk}
 use Rattle.laws.specs.search.StepBounds.{Small, shift_reference}
@@ -80,10 +80,7 @@ pub record Walking (a : Stack) (first list : List ℤ) (b b' v v' : List ℕ) (i
   pub pixels : FreeUpTo (stack_bytes a) b b'
   pub maps : FreeUpTo (stack_words a) v v'
 
-pub none_walked : {a : Stack} {first : List ℤ} {b v : List ℕ} → Walking a first first b b v v 0
-none_walked {b = b} {v = v} = record { left = refl; pixels = free_same _ b; maps = free_same _ v }
-
-pub walking_long : {a : Stack} {first list : List ℤ} {b b' v v' : List ℕ} {i : ℕ} → Walking a first list b b' v v' i → length list ≡ length first
+walking_long : {a : Stack} {first list : List ℤ} {b b' v v' : List ℕ} {i : ℕ} → Walking a first list b b' v v' i → length list ≡ length first
 walking_long {a} {first} {list} q =
     sym (put_length (shift_of a) list _) ∙ ap length q.left ∙ put_length (shift_of a) first (walk a.reference a.frames)
 

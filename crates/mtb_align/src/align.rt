@@ -21,7 +21,7 @@ use super::shrink::Shrink;
 use super::walk::{Frames, walk};
 
 // How the search is run, for all frames alike.
-#[derive(Drop)]
+#[derive(Clone, Copy)]
 pub struct Options {
     pub bits: u32,
     pub tolerance: u8,
@@ -29,7 +29,7 @@ pub struct Options {
 }
 
 // A step, and how many comparisons it took.
-#[derive(Drop)]
+#[derive(Clone, Copy)]
 pub struct Step {
     pub shift: Shift,
     pub comparisons: u64,
@@ -59,7 +59,7 @@ impl Options {
     }
 }
 
-#[derive(Drop)]
+#[derive(Clone, Copy)]
 pub enum StepAnswer {
     Stepped(Step),
     Refused(Error),
@@ -101,7 +101,7 @@ fn twice(s: Shift) -> Shift
 }
 
 // A shift with its disagreement.
-#[derive(Drop)]
+#[derive(Clone, Copy)]
 struct Candidate {
     shift: Shift,
     error: u64,

@@ -15,13 +15,13 @@ use super::ones::ones_in;
 // Bits per word.
 pub(crate) const WORD_BITS: usize = 64;
 
-#[derive(Drop)]
+#[derive(Clone, Copy)]
 pub enum PixelAnswer {
     Pixel(bool),
     Refused(Error),
 }
 
-#[derive(Drop)]
+#[derive(Clone, Copy)]
 pub enum TotalAnswer {
     Total(u64),
     Refused(Error),
@@ -154,7 +154,7 @@ pub fn row<'a>(words: &'a [u64], width: usize, height: usize, y: usize) -> &'a [
 
 // One word of each bitmap. Both are packed in one pass: a table by value gives a sample's two bits, and 32 samples make one number
 // with both halves.
-#[derive(Drop)]
+#[derive(Clone, Copy)]
 pub(crate) struct Words {
     pub threshold: u64,
     pub exclusion: u64,

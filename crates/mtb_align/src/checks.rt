@@ -116,13 +116,13 @@ fn words_needed(width: usize, height: usize) -> usize
 }
 
 // Scratch by its bytes and its words.
-#[derive(Drop)]
+#[derive(Clone, Copy)]
 pub struct Need {
     pub bytes: usize,
     pub words: usize,
 }
 
-#[derive(Drop)]
+#[derive(Clone, Copy)]
 pub enum NeedAnswer {
     Needed(Need),
     Refused(Error),

@@ -16,13 +16,13 @@ use super::numbers::min;
 use super::rectangles::moved;
 
 // How many pixels disagree, and how many were compared.
-#[derive(Drop)]
+#[derive(Clone, Copy)]
 pub struct Counts {
     pub disagreeing: u64,
     pub compared: u64,
 }
 
-#[derive(Drop)]
+#[derive(Clone, Copy)]
 pub enum CountsAnswer {
     Counted(Counts),
     Refused(Error),

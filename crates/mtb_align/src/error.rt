@@ -4,14 +4,14 @@ ghost use Rattle.definitions.specs.Refusals.{either_over};
 ghost use Rattle.mtb_align.specs.Answers.{number_of};
 
 // A frame's sides.
-#[derive(Drop)]
+#[derive(Clone, Copy)]
 pub struct Size {
     pub width: usize,
     pub height: usize,
 }
 
 // One case for each of document 01's numbers, with the values that it asks for; 4 has a case for two frames and one for a stack.
-#[derive(Drop)]
+#[derive(Clone, Copy)]
 pub enum Error {
     Side,
     Length,
@@ -55,7 +55,7 @@ impl Error {
     }
 }
 
-#[derive(Drop)]
+#[derive(Clone, Copy)]
 pub enum Outcome {
     Done,
     Refused(Error),

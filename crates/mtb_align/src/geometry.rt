@@ -11,27 +11,27 @@ use super::error::{Error, Outcome, side_over};
 use super::numbers::{min, saturating_sub};
 
 // How far a frame moves to sit on another.
-#[derive(Drop)]
+#[derive(Clone, Copy)]
 pub struct Shift {
     pub x: i32,
     pub y: i32,
 }
 
-#[derive(Drop)]
+#[derive(Clone, Copy)]
 pub enum ShiftAnswer {
     Moved(Shift),
     Refused(Error),
 }
 
 // The source of a place along one axis.
-#[derive(Drop)]
+#[derive(Clone, Copy)]
 pub(crate) enum SourcePlace {
     Inside(usize),
     Outside,
 }
 
 // A region of a frame, in pixels from the top left.
-#[derive(Drop)]
+#[derive(Clone, Copy)]
 pub struct Rect {
     pub x: usize,
     pub y: usize,
@@ -39,7 +39,7 @@ pub struct Rect {
     pub height: usize,
 }
 
-#[derive(Drop)]
+#[derive(Clone, Copy)]
 pub enum CropAnswer {
     Crop(Rect),
     Refused(Error),
@@ -246,7 +246,7 @@ pub fn shifted(
 }
 
 // What every frame covers along one axis.
-#[derive(Drop)]
+#[derive(Clone, Copy)]
 struct Covered {
     start: usize,
     width: usize,

@@ -104,7 +104,7 @@ pub fn pyramid(
 }
 
 // A part of a frame or of the scratch of its levels: which of the two, where it starts, and how many samples it has.
-#[derive(Drop)]
+#[derive(Clone, Copy)]
 pub struct LevelPlace {
     pub in_scratch: bool,
     pub start: usize,

@@ -2,6 +2,8 @@
 // align.rs ends with and goes through, checks the refusals of its calls, pairs what packs two frames and counts them; ones, words and
 // rectangles count the words that difference.rs counts one by one; numbers has methods of the Rust's library; the report is added, with
 // rivals and survey under it.
+#![tactic(auto)]
+
 pub mod align;
 pub mod bitmap;
 pub mod checks;

@@ -13,13 +13,13 @@ pub(crate) fn ones_of(word: u64) -> u64
 }
 
 // Words added up bit by bit: a bit of `ones` counts 1, one of `twos` 2, one of `fours` 4.
-#[derive(Drop)]
+#[derive(Clone, Copy)]
 struct Twos {
     twos: u64,
     ones: u64,
 }
 
-#[derive(Drop)]
+#[derive(Clone, Copy)]
 struct Fours {
     fours: u64,
     twos: u64,

@@ -12,7 +12,7 @@ use super::strips::pack_at;
 use super::threshold::cut_of;
 
 // A reference and a target of one size: their sides, the percentile that each is cut at, and how the search is run.
-#[derive(Drop)]
+#[derive(Clone, Copy)]
 pub(crate) struct TwoFrames {
     pub(crate) width: usize,
     pub(crate) height: usize,

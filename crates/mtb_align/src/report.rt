@@ -22,7 +22,7 @@ use super::walk::{Frames, walk};
 
 // How far from a step its rivals are sought, how many pixels a rival compares at least, and in how many more than the step it may
 // disagree.
-#[derive(Drop)]
+#[derive(Clone, Copy)]
 pub struct Terms {
     pub reach: u32,
     pub floor: u32,
@@ -30,13 +30,13 @@ pub struct Terms {
 }
 
 // The crop of the stack's shifts, and how many records were written.
-#[derive(Drop)]
+#[derive(Clone, Copy)]
 pub struct Summary {
     pub crop: Rect,
     pub records: usize,
 }
 
-#[derive(Drop)]
+#[derive(Clone, Copy)]
 pub enum ReportAnswer {
     Reported(Summary),
     Refused(Error),

@@ -97,7 +97,7 @@ fn sight(
 }
 
 // How many pixels a frame's step compares, and how many records there are once it was surveyed.
-#[derive(Drop)]
+#[derive(Clone, Copy)]
 struct Surveyed {
     compared: u64,
     number: usize,

@@ -9,7 +9,7 @@ ghost use Rattle.mtb_align.specs.Answers.{outcome, mode_of};
 use super::error::{Error, Outcome, side_over};
 
 // How a level of the pyramid is halved.
-#[derive(Drop)]
+#[derive(Clone, Copy)]
 pub enum Shrink {
     Average,
     Subsample,

@@ -25,7 +25,7 @@ pub(crate) const RECORD_BYTES: usize = 20;
 
 // What a survey asks: around which centre and how far from it, how many pixels a rival compares at least, and in how many it may
 // disagree.
-#[derive(Drop)]
+#[derive(Clone, Copy)]
 pub(crate) struct Question {
     pub(crate) centre: Shift,
     pub(crate) reach: usize,

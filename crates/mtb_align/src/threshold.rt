@@ -20,7 +20,7 @@ const LEVELS: usize = 256;
 // Values whose lanes are folded at a time.
 const PART: usize = 64;
 
-#[derive(Drop)]
+#[derive(Clone, Copy)]
 pub enum CutAnswer {
     Cut(u16),
     Refused(Error),

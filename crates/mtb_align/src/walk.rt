@@ -13,7 +13,7 @@ use super::geometry::Shift;
 use super::pairs::TwoFrames;
 
 // The frames of a stack, all of one size: their sides, how many there are, which is the reference, and how the search is run.
-#[derive(Drop)]
+#[derive(Clone, Copy)]
 pub(crate) struct Frames {
     pub(crate) width: usize,
     pub(crate) height: usize,

@@ -29,7 +29,7 @@ fn part_of(word: u64, down: usize, up: usize) -> u64
 }
 
 // The pixels of a word of the reference that are compared, and those of them that disagree.
-#[derive(Drop)]
+#[derive(Clone, Copy)]
 struct Shown {
     both: u64,
     odd: u64,

@@ -3,6 +3,8 @@
 // refused, answer with a length. Outputs go into lent slots: no call reads one, and a refusal leaves it as it was, so that the record
 // count is written by an accepted report alone. The values of a refusal of the counts, the step, the stack or the report go to the front
 // of a list of five.
+#![tactic(auto)]
+
 pub mod counts;
 pub mod files;
 pub mod frames;

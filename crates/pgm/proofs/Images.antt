@@ -71,13 +71,6 @@ module _ (file : List ℕ) (at : ℕ) {h : HeaderRead} (p : HeaderIs file (heade
     here : HeaderIs file (header_of (drop at file)) (headers.Found head)
     here = subst (HeaderIs file (header_of (drop at file))) e p
 
-    pub read_start : head.start ≤ length file
-    read_start = on (header_of (drop at file)) here
-      where
-        on : (r : Reading Sizes) → HeaderIs file r (headers.Found head) → head.start ≤ length file
-        on missing q = absurd q
-        on (found s l) q = q.3.inside
-
     pub read_found : sized (sizes_of head) (length file - head.start) head.start ≡ format.read file at
     read_found = on (header_of (drop at file)) refl here
       where

@@ -81,12 +81,6 @@ module _ {file : List ℕ} {at n : ℕ} {w h s : List ℕ} where
     pub kept_widths : length w ≡ n
     kept_widths = kept_numbers wide file at n w place k left d.widths
 
-    pub kept_heights : length h ≡ n
-    kept_heights = kept_numbers high file at n h place k left d.heights
-
-    pub kept_samples : length s ≡ length (samples_from file at n)
-    kept_samples = sym (length-sets s from (samples_from file place left)) ∙ ap length d.joined
-
     -- the next image's checks, and those of the images behind it
     apart : {rest : ℕ} → left ≡ suc rest
         → (answer (read_checks file place) (tt {0}) ≡ accepted tt) × (answer (images_checks file (image_read file place).next rest) (tt {0}) ≡ accepted tt)

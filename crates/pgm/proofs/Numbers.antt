@@ -10,7 +10,7 @@ use Rattle.pgm_format.specs.Pgm.{digits_of, after_digits}
 use Rattle.pgm_format.specs.Fronts.{digits_front}
 use Rattle.pgm.specs.Inner.{From, kept}
 use Rattle.laws.specs.general.Cases.{cond_true, cond_false}
-use Rattle.pgm.proofs.Places.{Left, left_none, left_more, left_stop, left_end, split}
+use Rattle.pgm.proofs.Places.{Left, left_more, left_stop, left_end, split}
 
 -- what is kept of a number settles what is kept of it with more digits
 kept_value : (n : ℕ) (l : List ℕ) → kept (value_from (kept n) l) ≡ kept (value_from n l)
@@ -54,9 +54,6 @@ pub record SoFar (file : List ℕ) (at value i : ℕ) : Type 0 where
 -- What read_number answers.
 abbrev pub NumberAt : List ℕ → ℕ → ℕ → ℕ → Type 0
 NumberAt file at value next = (value ≡ kept (value_from 0 (digits_of (drop at file)))) × From file (after_digits (drop at file)) next
-
-pub number_none : {file : List ℕ} {at : ℕ} → at ≤ length file → SoFar file at 0 at
-number_none h = record { left = left_none h; few = omega arith; whole = refl }
 
 module _ {file : List ℕ} {at value i : ℕ} (r : SoFar file at value i) where
   -- no digit is left

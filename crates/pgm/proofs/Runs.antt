@@ -72,13 +72,6 @@ pub record Counted (file : List ℕ) (at n samples next left : ℕ) : Type 0 whe
   pub place : next_from file next left ≡ next_from file at n
 
 module _ {file : List ℕ} {at n : ℕ} where
-  pub none_counted : {left : ℕ} → left ≡ n → Counted file at n 0 at left
-  none_counted l = record {
-    answers = λ e. ap (λ (m : ℕ). answer (images_checks file at m) e) (sym l);
-    sum = omega (arith, ap (λ (m : ℕ). length (samples_from file at m)) l);
-    place = ap (next_from file at) l;
-  }
-
   -- the checks that are left
   to_read : {samples next left rest : ℕ} → Counted file at n samples next left → left ≡ suc rest → (e : Extent)
       → answer (images_checks file at n) e ≡ answer (read_checks file next ++ images_checks file (image_read file next).next rest) e

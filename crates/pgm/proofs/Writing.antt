@@ -4,7 +4,7 @@ use mathlib.Core.List.{List, [], ◌∷◌, ◌++◌, append-nil, append_assoc}
 use Prim.Native.Nat.{ℕ, suc, ◌+◌, ◌-◌, ◌/◌, ◌%◌, ◌<◌, ◌≤◌}
 use native.Mathlib.Omega.{arith}
 use lib.ListN.{length, set, length-append}
-use lib.Seq.{sets, length-sets}
+use lib.Seq.{sets}
 use Rattle.definitions.specs.Decimal.{decimal}
 use Rattle.definitions.specs.Refusals.{Answer, accepted, refused, answer, after}
 use Rattle.laws.specs.checks.Checks.{after-accepted, after-refused}
@@ -25,9 +25,6 @@ module _ {old new : List ℕ} {end n at rest : ℕ} where
   -- what is left has room
   pub putting_room : Putting old end n new at rest → length (decimal n) ≤ end → length (decimal rest) ≤ suc at
   putting_room p h = omega (arith, p.ends, ap length p.parts, length-append (decimal rest) p.last)
-
-  pub putting_long : Putting old end n new at rest → length new ≡ length old
-  putting_long p = ap length p.held ∙ length-sets old (suc at) p.last
 
   -- the next digit
   stored : (p : Putting old end n new at rest) (d : ℕ) → set new at d ≡ sets old at (d ∷ p.last)

@@ -6,20 +6,20 @@ ghost use Rattle.pgm_format.specs.Pgm.{is_white, after_gap, digits_of, after_dig
 ghost use Rattle.pgm.specs.Inner.{From, after_comment, after_white, kept, FieldIs, HeaderIs};
 
 // A number, of which no more than 8,193 is kept, and the place behind its digits.
-#[derive(Drop)]
+#[derive(Clone, Copy)]
 pub(crate) struct Number {
     pub(crate) value: usize,
     pub(crate) next: usize,
 }
 
-#[derive(Drop)]
+#[derive(Clone, Copy)]
 pub(crate) enum FieldRead {
     Missing,
     Found(Number),
 }
 
 // The three numbers of a header, kept so too, and where the samples start.
-#[derive(Drop)]
+#[derive(Clone, Copy)]
 pub(crate) struct Head {
     pub(crate) width: usize,
     pub(crate) height: usize,
@@ -27,7 +27,7 @@ pub(crate) struct Head {
     pub(crate) start: usize,
 }
 
-#[derive(Drop)]
+#[derive(Clone, Copy)]
 pub(crate) enum HeaderRead {
     Missing,
     Found(Head),

@@ -1,4 +1,6 @@
 // PGM files: the image at a place of a file, the images of a file as a stack, and the one way to write a frame.
+#![tactic(auto)]
+
 mod header;
 pub mod stack;
 mod writer;
@@ -18,7 +20,7 @@ const LONGEST_SIDE: usize = 8192;
 const HIGHEST: usize = 255;
 
 // Why a call is refused.
-#[derive(Drop)]
+#[derive(Clone, Copy)]
 pub enum PgmError {
     Side,
     Length,
@@ -45,7 +47,7 @@ impl PgmError {
 }
 
 // An image of a file: its size, where its samples start, and the place behind them.
-#[derive(Drop)]
+#[derive(Clone, Copy)]
 pub struct Image {
     pub width: usize,
     pub height: usize,
@@ -71,7 +73,7 @@ impl Image {
     }
 }
 
-#[derive(Drop)]
+#[derive(Clone, Copy)]
 pub enum PgmAnswer {
     Found(Image),
     Refused(PgmError),
@@ -92,7 +94,7 @@ fn put_bytes(buffer: &mut [u8], at: usize, bytes: &[u8])
     ensures { buffer.new ≡ sets buffer.old at bytes.now }
 {
     let end = at + bytes.len();
-    bytes::copy(bytes, &mut buffer[at..end]);
+    buffer[at..end].copy_from_slice(bytes);
 }
 
 // The most samples that are put at once.
@@ -105,7 +107,8 @@ fn put_block(buffer: &mut [u8], at: usize, bytes: &[u8])
     ensures { buffer.new ≡ sets buffer.old at bytes.now }
 {
     let mut block = [0u8; BLOCK];
-    let n = bytes::copy(bytes, &mut block);
+    let n = bytes.len();
+    put_bytes(&mut block, 0, bytes);
     put_bytes(buffer, at, &block[..n]);
 }
 
@@ -158,7 +161,7 @@ pub fn read(file: &[u8], at: usize) -> PgmAnswer
     }
 }
 
-#[derive(Drop)]
+#[derive(Clone, Copy)]
 pub enum WriteAnswer {
     Written(usize),
     Refused(PgmError),

@@ -12,20 +12,20 @@ use super::{Image, PgmAnswer, PgmError, put_samples, read};
 // What a stack has no more of.
 const MOST_FRAMES: usize = 16;
 
-#[derive(Drop)]
+#[derive(Clone, Copy)]
 pub enum StackRead {
     Laid(usize),
     Refused(PgmError),
 }
 
 // How many samples the images of a run have, and the place behind them.
-#[derive(Drop)]
+#[derive(Clone, Copy)]
 pub(crate) struct Extent {
     samples: usize,
     next: usize,
 }
 
-#[derive(Drop)]
+#[derive(Clone, Copy)]
 pub(crate) enum RunRead {
     Whole(Extent),
     Refused(PgmError),

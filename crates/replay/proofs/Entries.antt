@@ -4,7 +4,7 @@ use mathlib.Core.List.{List}
 use Prim.Native.Nat.{ℕ, suc, ◌+◌, ◌≤◌, ◌<◌}
 use native.Mathlib.Numerals.{add-one}
 use native.Mathlib.Omega.{arith}
-use lib.ListN.{length, get_or, drop, set, replicate, length-replicate, get_or-replicate, drop_of_length-le}
+use lib.ListN.{length, get_or, drop, set, replicate, length-replicate, get_or-replicate}
 use lib.Seq.{sets, drop-cons, ext_get_or}
 use Rattle.laws.specs.general.Writes.{sets_out}
 use Rattle.replay.specs.Lists.{Marked}
@@ -23,18 +23,12 @@ module _ {A : Type 0} (d : A) where
       ext_get_or d l (replicate (length l) mark) (sym (length-replicate (length l) mark))
       (λ k lt. f k (omega arith) ∙ sym (get_or-replicate (length l) k mark d lt))
 
-  pub marked_at : (l : List A) (mark : A) (i : ℕ) → i < length l → Marked mark l → get_or l i d ≡ mark
-  marked_at l mark i h e = ap (λ (x : List A). get_or x i d) e ∙ get_or-replicate (length l) i mark d h
-
-  -- the entries from i on are left to be stored: one is stored, all are, or there is no more room
+  -- the entries from i on are left to be stored: one is stored, or there is no more room
   pub store_more : (l out : List A) (i : ℕ) (v : A) → i < length l → v ≡ get_or l i d → sets (set out i v) (i + 1) (drop (i + 1) l) ≡ sets out i (drop i l)
   store_more l out i v h e =
       ap (λ (k : ℕ). sets (set out i v) k (drop k l)) (add-one i)
       ∙ ap (λ (x : A). sets (set out i x) (suc i) (drop (suc i) l)) e
       ∙ sym (ap (sets out i) (drop-cons l i d h))
-
-  pub store_end : (l out : List A) (i : ℕ) → length l ≤ i → out ≡ sets out i (drop i l)
-  store_end l out i h = sym (ap (sets out i) (drop_of_length-le l h))
 
   pub store_full : (l out : List A) (i : ℕ) → length out ≤ i → out ≡ sets out i (drop i l)
   store_full l out i h = sym (sets_out out (drop i l) i h)

@@ -1,5 +1,5 @@
 -- A line that is read character by character.
-use mathlib.Core.Path.{◌≡◌, refl, sym, ap, ◌∙◌, subst}
+use mathlib.Core.Path.{◌≡◌, sym, ap, ◌∙◌, subst}
 use mathlib.Core.Bool.{Bool, false, ◌&&◌, ◌||◌}
 use mathlib.Core.List.{List, [], ◌∷◌}
 use Prim.Native.Nat.{ℕ, suc, ◌+◌, ◌-◌, ◌*◌, ◌≤◌, ◌<◌}
@@ -8,7 +8,7 @@ use native.Mathlib.Omega.{arith}
 use borrow.Author.Tests.{lt-ltb, le-ltb, le-leb, lt-leb, eq-eqb, ne_eqb}
 use lib.Dec.{leb, eqb}
 use lib.ListN.{length, get_or, drop, set, drop_of_length-le}
-use lib.Seq.{sets, length-sets, drop-cons}
+use lib.Seq.{sets, drop-cons}
 use Rattle.definitions.specs.Decimal.{is_digit}
 use Rattle.replay.specs.Lines.{with_digit, grown, number, numbers_from, numbers_of, line_length}
 use Rattle.laws.specs.general.Cases.{cond_true, cond_false, and_yes, and_no}
@@ -73,9 +73,6 @@ pub record Read (text : List ℕ) (at : ℕ) (old new : List ℕ) (count next : 
   pub counted : count ≡ length (numbers_of (drop at text))
   pub reached : next ≡ at + line_length (drop at text)
 
-pub read_long : {text old new : List ℕ} {at count next : ℕ} → Read text at old new count next → length new ≡ length old
-read_long {text} {old} {new} {at} r = ap length r.stored ∙ length-sets old 0 (numbers_of (drop at text))
-
 pub read_as : {text old new new' : List ℕ} {at count next : ℕ} → new' ≡ new → Read text at old new count next → Read text at old new' count next
 read_as e r = record { stored = e ∙ r.stored; counted = r.counted; reached = r.reached }
 
@@ -86,13 +83,6 @@ left_as {text} {old} {new} {new'} {at} {count} {n} {n'} {next} {negative} {negat
     subst (λ (x : List ℕ). Left text at old x count negative' n' next) (sym e)
     (subst (λ (x : Bool). Left text at old new count x n' next) (sym f)
     (subst (λ (x : ℕ). Left text at old new count negative x next) (sym g) l))
-
-pub left_none : (text : List ℕ) (at : ℕ) (old : List ℕ) → Left text at old old 0 false 0 at
-left_none text at old = record { stored = refl; counted = omega arith; reached = refl; few = omega arith }
-
-pub left_long : {text old new : List ℕ} {at count n next : ℕ} {negative : Bool} → Left text at old new count negative n next → length new ≡ length old
-left_long {text} {old} {new} {at} {count} {n} {next} {negative} l =
-    sym (length-sets new count (numbers_from negative n (drop next text))) ∙ ap length l.stored ∙ length-sets old 0 (numbers_of (drop at text))
 
 -- the text ends
 pub left_over : {text old new : List ℕ} {at count n next : ℕ} {negative : Bool} → Left text at old new count negative n next → length text ≤ next

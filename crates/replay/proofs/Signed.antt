@@ -8,7 +8,7 @@ use borrow.Author.Tests.{lt-ltb, le-ltb, le-leb, lt-leb}
 use lib.Dec.{leb}
 use lib.IntN.{ℤ, pos, ◌-ℤ◌}
 use mir.Syntax.{w32}
-use mir.Val.{SFits, to_z, of_z}
+use mir.Val.{SFits, to_z}
 use mir.Facts.{to_z-of_z}
 use Rattle.laws.specs.general.Cases.{lt_or_le, cond_true, cond_false, and_no, and_yes}
 use Rattle.laws.specs.general.Machine.{fits32}
@@ -68,7 +68,3 @@ coordinate_fits n = ⊎_elim
 
     zero_fits : SFits w32 (pos 0)
     zero_fits = record { sfits = omega arith }
-
--- two i32 whose bits are the same
-pub same_bits : {a b : ℤ} → SFits w32 a → SFits w32 b → of_z w32 a ≡ of_z w32 b → a ≡ b
-same_bits f g e = sym (to_z-of_z f) ∙ ap (to_z w32) e ∙ to_z-of_z g

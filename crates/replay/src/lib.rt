@@ -1,4 +1,6 @@
 // What the test programs share: cases read from lines of decimal numbers, and buffers held against them.
+#![tactic(auto)]
+
 pub mod answers;
 
 ghost use Rattle.std.specs.Prelude.{◌≡◌, ◌||◌, map, ◌+◌, ◌*◌, ◌≤◌, ◌<◌, eqb, negsuc, length, get_or, take, drop, set};
@@ -7,8 +9,10 @@ ghost use Rattle.replay.specs.Lines as lines;
 ghost use Rattle.definitions.specs.Report.{field_of};
 ghost use Rattle.replay.specs.Lists.{Whether, Marked, Fields, byte_of, coordinate_of};
 
+use std::io;
+
 // How many numbers a line has, and where the next line begins.
-#[derive(Drop)]
+#[derive(Clone, Copy)]
 pub struct Line {
     pub count: usize,
     pub next: usize,
@@ -368,20 +372,14 @@ pub fn marked_coordinates(got: &[i32]) -> bool
 
 // ---- what a run found
 
-fn say(call: u64, case: u64) {
-    io::write_all(1, b"call ");
-    io::print_decimal(1, call);
-    io::write_all(1, b" case ");
-    io::print_decimal(1, case);
-    io::write_all(1, b" differs\n");
+fn say(rt: &impl Print, call: u64, case: u64) -> io::Result<()> {
+    println!(rt; "call {call} case {case} differs")
 }
 
 // What a run over all lines found: every case agreed, or which did not.
-pub fn conclude(agreed: bool, call: usize, cases: u64) {
+pub fn conclude(rt: &impl Print, agreed: bool, call: usize, cases: u64) -> io::Result<()> {
     if agreed {
-        io::print_decimal(1, cases);
-        io::write_all(1, b" cases agree\n");
-        return;
+        return println!(rt; "{cases} cases agree");
     }
-    say(call as u64, cases);
+    say(rt, call as u64, cases)
 }

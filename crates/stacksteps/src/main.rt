@@ -1,13 +1,20 @@
 // Reads frames of 64 by 64 samples from standard input and prints their report. Where the output takes no more, it says so on
 // standard error.
+#![tactic(auto)]
 
-fn main() {
-    // One byte more than eight frames have.
-    let mut input = [0u8; 32769];
-    let n = io::read_full(0, &mut input);
+use std::io;
+use std::io::Read;
+
+// One byte more than eight frames have.
+const INPUT: u64 = 32769;
+
+fn main(rt: HostRuntime) -> io::Result<()> {
+    let mut input = Vec::new(rt.alloc());
+    rt.reader().take(INPUT).read_to_end(&mut input)?;
     let mut text = [0u8; 8192];
-    let end = steps::put_text(&input[..n], &mut text);
-    if !io::write_all(1, &text[0..end]) {
-        io::write_all(2, b"stacksteps: the output is not complete\n");
+    let end = steps::put_text(input.as_slice(), &mut text);
+    if rt.write_all(&text[0..end]).is_err() {
+        eprintln!(rt; "stacksteps: the output is not complete")?;
     }
+    Ok(())
 }

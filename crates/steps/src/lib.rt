@@ -1,4 +1,6 @@
 // The text that the program stacksteps prints for its input: the report of up to eight frames of 64 by 64 samples.
+#![tactic(auto)]
+
 mod records;
 mod text;
 

@@ -2,10 +2,14 @@
 // the same planes lent directly. The input is two mosaics of 65 by 63, the second of which is moved by twice the step below, and behind
 // them, for each plane, that of the first and that of the second, picked pixel by pixel. Prints a line for each plane, and whether both
 // mosaics are put together again.
+#![tactic(auto)]
+
 use mosaic::{MosaicAnswer, Plane, Planes, PlanesAnswer};
 use mtb_align::align::{Options, StepAnswer};
 use mtb_align::report::{ReportAnswer, Terms};
 use mtb_align::shrink::Shrink;
+use std::io;
+use std::io::Read;
 
 const WIDTH: usize = 65;
 
@@ -121,22 +125,22 @@ fn is_alone(verdicts: &[u8; 2]) -> bool {
 }
 
 fn same_verdicts(a: &[u8; 2], b: &[u8; 2]) -> bool {
-    check::same(a, b)
+    a == b
 }
 
 fn same_records(a: &[u8; RECORDS], b: &[u8; RECORDS]) -> bool {
-    check::same(a, b)
+    a == b
 }
 
-fn say(what: &[u8], is: bool) {
+fn say(rt: &impl Print, what: &str, is: bool) -> io::Result<()> {
     if !is {
-        io::write_all(1, b" not");
+        print!(rt; " not")?;
     }
-    io::write_all(1, what);
+    print!(rt; "{what}")
 }
 
 // The report on two planes that are laid out as a stack, and whether that on the frames which are lent is the same.
-fn print_report(plane: Plane, stack: &[u8], lent: &[u8]) {
+fn print_report(rt: &impl Print, plane: Plane, stack: &[u8], lent: &[u8]) -> io::Result<()> {
     let mut shifts = [0i32; 4];
     let mut verdicts = [0u8; 2];
     let mut records = [0u8; RECORDS];
@@ -151,18 +155,17 @@ fn print_report(plane: Plane, stack: &[u8], lent: &[u8]) {
         &mut lent_verdicts,
         &mut lent_records,
     );
-    say(b" alone,", is_alone(&verdicts));
-    io::write_all(1, b" rivals ");
-    io::print_decimal(1, n as u64);
-    io::write_all(1, b",");
+    say(rt, " alone,", is_alone(&verdicts))?;
+    print!(rt; " rivals {n},")?;
     say(
-        b" as of the planes lent directly\n",
+        rt,
+        " as of the planes lent directly\n",
         n == m
             && is_step(&shifts)
             && is_step(&lent_shifts)
             && same_verdicts(&verdicts, &lent_verdicts)
             && same_records(&records, &lent_records),
-    );
+    )
 }
 
 // Two planes one behind the other, as a stack; how many samples they have, or 0 where there is no room for them.
@@ -178,69 +181,82 @@ fn stacked(first: &[u8], second: &[u8], stack: &mut [u8]) -> usize {
         return 0;
     }
     let end = n + second.len();
-    bytes::copy(first, &mut stack[0..n]);
-    bytes::copy(second, &mut stack[n..end]);
+    stack[0..n].copy_from_slice(first);
+    stack[n..end].copy_from_slice(second);
     end
 }
 
 // A plane of both mosaics. For the step they are lent where they stand, for the report as a stack.
-fn print_plane(name: &[u8], plane: Plane, first: &[u8], second: &[u8], lent: &[u8]) {
-    io::write_all(1, name);
-    io::write_all(1, b": ");
-    io::print_decimal(1, plane.width as u64);
-    io::write_all(1, b" by ");
-    io::print_decimal(1, plane.height as u64);
-    io::write_all(1, b" from ");
-    io::print_decimal(1, plane.start as u64);
-    io::write_all(1, b",");
-    say(b" moved as the mosaic,", stepped(plane, first, second));
+fn print_plane(
+    rt: &impl Print,
+    name: &str,
+    plane: Plane,
+    first: &[u8],
+    second: &[u8],
+    lent: &[u8],
+) -> io::Result<()> {
+    let width = plane.width;
+    let height = plane.height;
+    let start = plane.start;
+    print!(rt; "{name}: {width} by {height} from {start},")?;
+    say(rt, " moved as the mosaic,", stepped(plane, first, second))?;
     let mut stack = [0u8; 2 * PLANE];
     let n = stacked(plane.part(first), plane.part(second), &mut stack);
     if n > 2 * PLANE {
-        return;
+        return Ok(());
     }
-    print_report(plane, &stack[0..n], lent);
+    print_report(rt, plane, &stack[0..n], lent)
 }
 
-fn print_planes(planes: Planes, first: &[u8], second: &[u8], lent: &[u8]) {
+fn print_planes(
+    rt: &impl Print,
+    planes: Planes,
+    first: &[u8],
+    second: &[u8],
+    lent: &[u8],
+) -> io::Result<()> {
     if lent.len() != END {
-        return;
+        return Ok(());
     }
     print_plane(
-        b"even rows, even columns",
+        rt,
+        "even rows, even columns",
         planes.even_even,
         first,
         second,
         &lent[FIRST..SECOND],
-    );
+    )?;
     print_plane(
-        b"even rows, odd columns",
+        rt,
+        "even rows, odd columns",
         planes.even_odd,
         first,
         second,
         &lent[SECOND..THIRD],
-    );
+    )?;
     print_plane(
-        b"odd rows, even columns",
+        rt,
+        "odd rows, even columns",
         planes.odd_even,
         first,
         second,
         &lent[THIRD..FOURTH],
-    );
+    )?;
     print_plane(
-        b"odd rows, odd columns",
+        rt,
+        "odd rows, odd columns",
         planes.odd_odd,
         first,
         second,
         &lent[FOURTH..END],
-    );
+    )
 }
 
 // The planes are put together as the mosaic that they were taken from.
 fn put_together_again(planes: &[u8], mosaic: &[u8]) -> bool {
     let mut again = [0u8; SAMPLES];
     match mosaic::put_together(planes, WIDTH, HEIGHT, &mut again) {
-        MosaicAnswer::Done => check::same(&again, mosaic),
+        MosaicAnswer::Done => again.as_slice() == mosaic,
         MosaicAnswer::Refused(_) => false,
     }
 }
@@ -252,10 +268,9 @@ fn taken_apart(mosaic: &[u8], planes: &mut [u8]) -> bool {
     }
 }
 
-fn run(input: &[u8]) {
+fn run(rt: &impl Print, input: &[u8]) -> io::Result<()> {
     if input.len() != 4 * SAMPLES {
-        io::write_all(1, b"the input is not two mosaics and their planes\n");
-        return;
+        return println!(rt; "the input is not two mosaics and their planes");
     }
     let first = &input[0..SAMPLES];
     let second = &input[SAMPLES..2 * SAMPLES];
@@ -265,18 +280,20 @@ fn run(input: &[u8]) {
     let both = taken_apart(second, &mut others) && one;
     match mosaic::layout(WIDTH, HEIGHT) {
         PlanesAnswer::Laid(laid) => {
-            print_planes(laid, &planes, &others, &input[2 * SAMPLES..]);
+            print_planes(rt, laid, &planes, &others, &input[2 * SAMPLES..])?;
         }
         PlanesAnswer::Refused(_) => {}
     }
     let again = put_together_again(&planes, first);
     let other_again = put_together_again(&others, second);
-    io::write_all(1, b"both mosaics are");
-    say(b" put together again\n", both && again && other_again);
+    print!(rt; "both mosaics are")?;
+    say(rt, " put together again\n", both && again && other_again)
 }
 
-fn main() {
-    let mut input = [0u8; 4 * SAMPLES];
-    let n = io::read_full(0, &mut input);
-    run(&input[..n]);
+fn main(rt: HostRuntime) -> io::Result<()> {
+    let mut input = Vec::new(rt.alloc());
+    rt.reader()
+        .take(4 * SAMPLES as u64)
+        .read_to_end(&mut input)?;
+    run(&rt, input.as_slice())
 }

@@ -2,12 +2,16 @@
 // of 64 by 64, and behind it the samples of these frames without headers. Prints the report of the file's frames, and whether both ways
 // have the same shifts and the same report. Then writes the frames one behind another, and prints whether what is read of that is the
 // bracket, and how many bytes both files have.
+#![tactic(auto)]
+
 use mtb_align::align::Options;
 use mtb_align::error::Outcome;
 use mtb_align::report::{ReportAnswer, Terms};
 use mtb_align::shrink::Shrink;
 use pgm::WriteAnswer;
 use pgm::stack::StackRead;
+use std::io;
+use std::io::Read;
 
 const SIDE: usize = 64;
 
@@ -70,22 +74,15 @@ fn aligned(widths: &[usize], heights: &[usize], samples: &[u8], shifts: &mut [i3
 }
 
 fn same_shifts(a: &[i32; SHIFTS], b: &[i32; SHIFTS]) -> bool {
-    let mut i: usize = 0;
-    while i < SHIFTS {
-        if a[i] != b[i] {
-            return false;
-        }
-        i += 1;
-    }
-    true
+    a == b
 }
 
 fn same_verdicts(a: &[u8; FRAMES], b: &[u8; FRAMES]) -> bool {
-    check::same(a, b)
+    a == b
 }
 
 fn same_records(a: &[u8; RECORDS], b: &[u8; RECORDS]) -> bool {
-    check::same(a, b)
+    a == b
 }
 
 // The frames of the file have the shifts of the frames that are lent.
@@ -193,67 +190,69 @@ fn is_bracket(file: &[u8], bracket: &[u8]) -> bool {
     let mut heights = [0usize; FRAMES];
     let mut samples = [0u8; SAMPLES];
     match pgm::stack::read_stack(file, 0, &mut widths, &mut heights, &mut samples) {
-        StackRead::Laid(next) => next == file.len() && check::same(&samples, bracket),
+        StackRead::Laid(next) => next == file.len() && samples.as_slice() == bracket,
         StackRead::Refused(_) => false,
     }
 }
 
 // Writes the bracket of a file of so many bytes, and says whether it is read back.
-fn say_written(samples: &[u8], length: usize) {
+fn say_written(rt: &impl Print, samples: &[u8], length: usize) -> io::Result<()> {
     let mut file = [0u8; INPUT];
     let end = all_written(samples, &mut file);
     if end > INPUT {
-        return;
+        return Ok(());
     }
     if !is_bracket(&file[0..end], samples) {
-        io::write_all(1, b"not ");
+        print!(rt; "not ")?;
     }
-    io::write_all(1, b"read back from ");
-    io::print_decimal(1, end as u64);
-    io::write_all(1, b" bytes, of ");
-    io::print_decimal(1, length as u64);
-    io::write_all(1, b"\n");
+    println!(rt; "read back from {end} bytes, of {length}")
 }
 
-fn print_report(samples: &[u8]) {
+fn print_report(rt: &impl Print, samples: &[u8]) -> io::Result<()> {
     let mut text = [0u8; 8192];
     let end = steps::put_text(samples, &mut text);
-    io::write_all(1, &text[0..end]);
+    rt.write_all(&text[0..end])
 }
 
-fn say(what: &[u8], alike: bool) {
-    io::write_all(1, what);
+fn say(rt: &impl Print, what: &str, alike: bool) -> io::Result<()> {
     if alike {
-        io::write_all(1, b" as of the frames lent directly\n");
-        return;
+        return println!(rt; "{what} as of the frames lent directly");
     }
-    io::write_all(1, b" not as of the frames lent directly\n");
+    println!(rt; "{what} not as of the frames lent directly")
 }
 
-fn run(input: &[u8]) {
+fn run(rt: &impl Print, input: &[u8]) -> io::Result<()> {
     let mut widths = [0usize; FRAMES];
     let mut heights = [0usize; FRAMES];
     let mut samples = [0u8; SAMPLES];
     match pgm::stack::read_stack(input, 0, &mut widths, &mut heights, &mut samples) {
         StackRead::Laid(next) => {
-            print_report(&samples);
+            print_report(rt, &samples)?;
             if next <= input.len() {
                 let lent = &input[next..];
-                say(b"shifts", aligned_alike(&widths, &heights, &samples, lent));
-                say(b"report", reported_alike(&widths, &heights, &samples, lent));
-                say_written(&samples, next);
+                say(
+                    rt,
+                    "shifts",
+                    aligned_alike(&widths, &heights, &samples, lent),
+                )?;
+                say(
+                    rt,
+                    "report",
+                    reported_alike(&widths, &heights, &samples, lent),
+                )?;
+                say_written(rt, &samples, next)?;
             }
+            Ok(())
         }
         StackRead::Refused(e) => {
-            io::write_all(1, b"refused ");
-            io::print_decimal(1, e.number() as u64);
-            io::write_all(1, b"\n");
+            let number = e.number();
+            println!(rt; "refused {number}")
         }
     }
 }
 
-fn main() {
-    let mut input = [0u8; INPUT];
-    let n = io::read_full(0, &mut input);
-    run(&input[..n]);
+fn main(rt: HostRuntime) -> io::Result<()> {
+    let mut input = Vec::new(rt.alloc());
+    rt.reader().take(INPUT as u64).read_to_end(&mut input)?;
+    run(&rt, input.as_slice())
 }

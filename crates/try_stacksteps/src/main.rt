@@ -1,6 +1,10 @@
 // Runs the program stacksteps on many inputs: for each a line with the lengths of the input and of the text that is expected for it,
 // then both.
+#![tactic(auto)]
+
 use replay::{MARK, at, conclude, marked_bytes, read_line};
+use std::io;
+use std::io::Read;
 
 // The longest that is read, an input, and a text.
 const CASES: usize = 524288;
@@ -13,7 +17,7 @@ const TEXT: usize = 8192;
 fn text_agrees(input: &[u8], expected: &[u8]) -> bool {
     let mut out = [MARK; TEXT];
     let end = steps::put_text(input, &mut out);
-    check::same(&out[0..end], expected) && marked_bytes(&out[end..])
+    &out[0..end] == expected && marked_bytes(&out[end..])
 }
 
 // The input of n bytes from `from` on, and the m bytes behind it. The line before them has two numbers.
@@ -46,29 +50,26 @@ fn past(from: usize, n: usize, m: usize) -> usize {
     from + n % CASES + m % CASES
 }
 
-fn run(text: &[u8]) {
+fn run(rt: &impl Print, text: &[u8]) -> io::Result<()> {
     let mut lengths = [0u64; 2];
-    let mut cases: u64 = 0;
     let mut next: usize = 0;
-    while cases < 1000 {
+    for cases in 0..1000 {
         if next >= text.len() {
-            conclude(true, 0, cases);
-            return;
+            return conclude(rt, true, 0, cases);
         }
         let found = read_line(text, next, &mut lengths);
         let n = at(&lengths, 0);
         let m = at(&lengths, 1);
         if !agrees(text, found.count, found.next, n, m) {
-            conclude(false, 0, cases);
-            return;
+            return conclude(rt, false, 0, cases);
         }
         next = past(found.next, n, m);
-        cases += 1;
     }
+    Ok(())
 }
 
-fn main() {
-    let mut text = [0u8; CASES];
-    let n = io::read_full(0, &mut text);
-    run(&text[..n]);
+fn main(rt: HostRuntime) -> io::Result<()> {
+    let mut text = Vec::new(rt.alloc());
+    rt.reader().take(CASES as u64).read_to_end(&mut text)?;
+    run(&rt, text.as_slice())
 }

@@ -1,6 +1,8 @@
 // Replays the vectors of every call. Each line of the input is a call's number, its inputs and its answer; the fields are those of
 // compare/vectors, the cases stand by the file of the port that has the call. A refused call must leave its marked buffers alone, and
 // an accepted one what lies past its outputs.
+#![tactic(auto)]
+
 mod align;
 mod bitmap;
 mod difference;
@@ -13,6 +15,11 @@ mod shrink;
 mod threshold;
 
 use replay::{MARK, MARK_WORD, at, bytes, conclude, part, read_line, rest, sizes, words};
+use std::io;
+use std::io::Read;
+
+// The longest that is read.
+const TEXT: u64 = 3145728;
 
 // The most numbers of a line.
 const NUMBERS: usize = 20480;
@@ -145,27 +152,24 @@ fn line_agrees(numbers: &[u64], count: usize) -> bool {
     agrees(&numbers[0..count])
 }
 
-fn replayed(text: &[u8]) {
+fn replayed(rt: &impl Print, text: &[u8]) -> io::Result<()> {
     let mut numbers = [0u64; NUMBERS];
-    let mut cases: u64 = 0;
     let mut next: usize = 0;
-    while cases < 100000 {
+    for cases in 0..100000 {
         if next >= text.len() {
-            conclude(true, 0, cases);
-            return;
+            return conclude(rt, true, 0, cases);
         }
         let found = read_line(text, next, &mut numbers);
         if !line_agrees(&numbers, found.count) {
-            conclude(false, at(&numbers, 0), cases);
-            return;
+            return conclude(rt, false, at(&numbers, 0), cases);
         }
         next = found.next;
-        cases += 1;
     }
+    Ok(())
 }
 
-fn main() {
-    let mut text = [0u8; 3145728];
-    let n = io::read_full(0, &mut text);
-    replayed(&text[..n]);
+fn main(rt: HostRuntime) -> io::Result<()> {
+    let mut text = Vec::new(rt.alloc());
+    rt.reader().take(TEXT).read_to_end(&mut text)?;
+    replayed(&rt, text.as_slice())
 }

@@ -1,0 +1,67 @@
+use Prim.Native.Nat.{◌+◌, ◌-◌}
+use native.Mathlib.Omega.{arith}
+use lib.ListN.{length, take, drop}
+use Rattle.mtb_align.proofs.Costs.{Taken, asks, gives, Bounds, bounds, taken_parts}
+use Rattle.mtb_align.proofs.align.step_around.Goals.{After-halved_samples-half, After-side_at-2}
+use Rattle.mtb_align.proofs.align.step_around.Goals as goal
+
+-- ---- a halved level
+
+found : (c : After-halved_samples-half)
+    → let x = c.args in
+    Bounds x.frames.width x.frames.height x.last x.level
+    c.halved_samples-start.result c.halved_samples-end.result c.halved_samples-half.result (length x.bytes.now)
+found c =
+    let p = c.requires in
+    bounds p.levelled (omega (arith, c.if-level-eq0.false)) p.level_le_last.0
+    c.halved_samples-start.ensures c.halved_samples-end.ensures c.halved_samples-half.ensures
+
+parts : (c : After-side_at-2)
+    → let x = c.args in
+    let from = c.halved_samples-start.result in
+    let end = c.halved_samples-end.result in
+    let half = c.halved_samples-half.result in
+    Bounds x.frames.width x.frames.height x.last x.level from end half (length x.bytes.now)
+    → Taken x.frames x.reference.now x.target.now x.level c.side_at.result c.side_at-2.result
+    (take (end - from) (drop from x.bytes.now))
+    (take (half + end - (half + from)) (drop (half + from) x.bytes.now))
+parts c b =
+    let p = c.requires in
+    taken_parts p.levelled (omega (arith, c.if-level-eq0.false)) p.level_le_last.0 b c.side_at.ensures c.side_at-2.ensures
+
+pub overflow_add-behind : goal.overflow_add-behind
+overflow_add-behind c = let b = found c in omega arith
+
+pub overflow_add-behind_end : goal.overflow_add-behind_end
+overflow_add-behind_end c = let b = found c in omega arith
+
+pub slice_bounds-level_step-count : goal.slice_bounds-level_step-count
+slice_bounds-level_step-count c = let b = found (goal.at.slice_bounds-level_step-count c).After-halved_samples-half in omega arith
+
+pub slice_bounds-level_step-start : goal.slice_bounds-level_step-start
+slice_bounds-level_step-start c = let b = found (goal.at.slice_bounds-level_step-start c).After-halved_samples-half in omega arith
+
+pub slice_bounds-level_step-end : goal.slice_bounds-level_step-end
+slice_bounds-level_step-end c = let b = found (goal.at.slice_bounds-level_step-end c).After-halved_samples-half in omega arith
+
+pub slice_bounds-level_step-count-2 : goal.slice_bounds-level_step-count-2
+slice_bounds-level_step-count-2 c = let b = found (goal.at.slice_bounds-level_step-count-2 c).After-halved_samples-half in omega arith
+
+pub slice_bounds-level_step-start-2 : goal.slice_bounds-level_step-start-2
+slice_bounds-level_step-start-2 c = let b = found (goal.at.slice_bounds-level_step-start-2 c).After-halved_samples-half in omega arith
+
+pub slice_bounds-level_step-end-2 : goal.slice_bounds-level_step-end-2
+slice_bounds-level_step-end-2 c = let b = found (goal.at.slice_bounds-level_step-end-2 c).After-halved_samples-half in omega arith
+
+pub level_step-requires-2 : goal.level_step-requires-2
+level_step-requires-2 c =
+    let s = goal.at.level_step-requires-2 c in
+    let p = c.requires in
+    (asks (parts s.After-side_at-2 (found s.After-halved_samples-half)) p.levelled, p.level_le_last.1)
+
+pub returns : goal.returns
+returns c =
+    let s = goal.at.returns c in
+    let e = c.level_step-2.ensures in
+    let g = gives (parts s.After-side_at-2 (found s.After-halved_samples-half)) _ e.result_value e.free_up_to in
+    record { result_value = g.0; free_up_to = g.1 }

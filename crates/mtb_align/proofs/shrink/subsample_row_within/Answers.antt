@@ -1,0 +1,19 @@
+use mathlib.Core.Path.{◌∙◌}
+use Prim.Native.Nat.{◌+◌, ◌*◌}
+use native.Mathlib.Omega.{arith}
+use Rattle.definitions.specs.Shrink.{subsample}
+use Rattle.laws.specs.general.Writes.{stored_none, stored_more}
+use Rattle.mtb_align.proofs.Halves.{left_is}
+use Rattle.mtb_align.proofs.Within.{sample_within}
+use Rattle.mtb_align.proofs.shrink.subsample_row_within.Goals as goal
+
+pub loop-x-init : goal.loop-x-init
+loop-x-init c = (omega arith, stored_none _ _ _)
+
+pub loop-x-preserved : goal.loop-x-preserved
+loop-x-preserved c =
+    let l = c.loop-x in
+    let a = c.args in
+    let e = left_is l.scratch a.from a.width l.x a.y (a.from + 2 * a.y * a.width) (omega arith) in
+    let m = c.left_of-sample.ensures ∙ c.side_by_side.ensures.0 ∙ e in
+    (omega arith, stored_more l.invariant.1 (m ∙ sample_within subsample a.from a.width a.y l.invariant.1 (omega arith) (omega arith)))

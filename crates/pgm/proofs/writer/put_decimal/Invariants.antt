@@ -1,0 +1,9 @@
+-- The loop keeps: the last digits are put, those of the rest are not yet.
+use Rattle.pgm.proofs.Writing.{Putting}
+use Rattle.pgm.proofs.writer.put_decimal.Given as goal
+
+abbrev pub invariant-loop-rest : goal.invariant-loop-rest
+invariant-loop-rest l = Putting l.initial.file l.end l.n l.file l.at l.rest
+
+abbrev pub decreases-loop-rest : goal.decreases-loop-rest
+decreases-loop-rest l = l.rest

@@ -1,0 +1,12 @@
+-- The first i coordinates have the mark.
+use Prim.Native.Nat.{ℕ, ◌-◌, ◌≤◌, ◌<◌}
+use mathlib.Core.Path.{◌≡◌}
+use lib.ListN.{length, get_or}
+use lib.IntN.{pos, negsuc}
+use Rattle.replay.proofs.marked_coordinates.Given as goal
+
+abbrev pub invariant-loop-i : goal.invariant-loop-i
+invariant-loop-i l = (l.i ≤ length l.got) × ((k : ℕ) → k < l.i → get_or l.got k (pos 0) ≡ negsuc 1515870810)
+
+abbrev pub decreases-loop-i : goal.decreases-loop-i
+decreases-loop-i l = length l.got - l.i
