@@ -1,7 +1,7 @@
 /*
  * mtb.h: image registration by median threshold bitmaps, every call proved. Version 4.1.0.
  *
- * Link libmtb_c.a, which `rt staticlib mtb_c` writes to target/staticlib (x86-64). docs/CALLS.md has each call in full.
+ * Link libmtb_c.a, which `rt lib` in crates/mtb_c writes to its out/ (x86-64-v2). docs/CALLS.md has each call in full.
  *
  * Status. A call returns 0 where it is accepted, else the number of the first check that fails, in the order given with the call
  * after "Refused:". A refused call writes nothing but `values`, and under 10 the scratch.

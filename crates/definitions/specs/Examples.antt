@@ -18,7 +18,8 @@ abbrev pixel : ℕ → ℕ → Bitmaps
 pixel t e = record { threshold = λ (x y : ℕ). t; exclusion = λ (x y : ℕ). e }
 
 -- At -65 column 2 reads column 67, bit 3 of the second word: rounding towards zero at a word would read column 66 or 3.
-across_a_word : counts 130 1 (bitmaps_in 130 (4 ∷ 0 ∷ 0 ∷ []) (4 ∷ 0 ∷ 0 ∷ [])) (bitmaps_in 130 (0 ∷ 0 ∷ 0 ∷ []) (0 ∷ 8 ∷ 0 ∷ [])) (shift (negsuc 64) (pos 0)) ≡ record { disagreeing = 1; compared = 1 }
+across_a_word : counts 130 1 (bitmaps_in 130 (4 ∷ 0 ∷ 0 ∷ []) (4 ∷ 0 ∷ 0 ∷ [])) (bitmaps_in 130 (0 ∷ 0 ∷ 0 ∷ []) (0 ∷ 8 ∷ 0 ∷ [])) (shift (negsuc 64) (pos 0))
+    ≡ record { disagreeing = 1; compared = 1 }
 unfolding sum index_of source at_sources words_per_row bit_of bit_at bitmaps_in compared_bit disagreeing_bit overlap counts
 across_a_word = refl
 

@@ -1,5 +1,6 @@
 -- The report: the rivals of each step, their records as bytes and back, and the verdicts.
-use Rattle.std.specs.Prelude.{ℕ, suc, ◌+◌, ◌-◌, ◌*◌, ◌/◌, ◌%◌, ◌≤◌, ◌<◌, max, ◌≡◌, Bool, cond, not, ◌&&◌, List, [], ◌∷◌, ◌++◌, map, ltb, leb, eqb, ℤ, pos, negsuc, nat_abs, ◌+ℤ◌, ◌-ℤ◌, length, get_or, ◌<ℤ◌}
+use Rattle.std.specs.Prelude.{ℕ, suc, ◌+◌, ◌-◌, ◌*◌, ◌/◌, ◌%◌, ◌≤◌, ◌<◌, max, ◌≡◌, Bool, cond, not, ◌&&◌, List, [], ◌∷◌, ◌++◌, map, ltb, leb, eqb, ℤ}
+use Rattle.std.specs.Prelude.{pos, negsuc, nat_abs, ◌+ℤ◌, ◌-ℤ◌, length, get_or, ◌<ℤ◌}
 use Rattle.definitions.specs.Sum.{sum}
 use Rattle.definitions.specs.Build.{build, joined, image, keep_if}
 use Rattle.definitions.specs.Geometry.{Shift, Rect, common_crop}

@@ -16,7 +16,7 @@ use Rattle.laws.specs.search.Walk.{neighbour_among, walk_length, walked}
 use Rattle.laws.specs.checks.Checks.{skip, skip_all, done, side_skip, length_skip, scratch_skip}
 use Rattle.laws.specs.checks.ChecksStack.{past_lists, past_entries, past_reference}
 use Rattle.mosaic_format.specs.Mosaic.{half, plane_width, plane_height, plane, apart}
-use Rattle.mosaic_format.specs.Planes.{one_of, plane_length, plane-small}
+use Rattle.mosaic_format.specs.Planes.{one_of, plane_length, plane_small}
 
 -- What it is to be a stack of n frames of a by b: frame k is r k, and the call is accepted wherever the caller brings a percentile of at
 -- most 100 for each frame, a reference among them, a shift list of their number and the scratch.
@@ -69,7 +69,7 @@ module _ (n a b : ℕ) (r : ℕ → List ℕ) (few : n ≤ 16) (wide : a ≤ 819
         let whole : length (joined n r) ≡ n * (a * b) = joined_length n (a * b) r long in
         let pairs : accepted (tt {0}) ≡ answer (map (pair_differs (replicate n a) (replicate n b) reference) (walk reference (length (replicate n a)))) tt =
         pairs_pass n a b reference among (walk reference (length (replicate n a)))
-        (λ i k. walk-among reference i among m k) in
+        (λ i k. walk_among reference i among m k) in
         skip_all tt _ _
         (sym
         (past_lists (replicate n a) (replicate n b) percentiles reference (omega arith) (omega arith) (m' ∙ sym m)
@@ -82,9 +82,9 @@ module _ (n a b : ℕ) (r : ℕ → List ℕ) (few : n ≤ 16) (wide : a ≤ 819
         (scratch_skip tt _ _ _ (need step_words m w h maps) (done tt)))));
   }
     where
-      walk-among : (reference i : ℕ) → reference < n → length (replicate n a) ≡ n → i < length (walk reference (length (replicate n a)))
+      walk_among : (reference i : ℕ) → reference < n → length (replicate n a) ≡ n → i < length (walk reference (length (replicate n a)))
           → get_or (walk reference (length (replicate n a))) i 0 < n
-      walk-among reference i among m k =
+      walk_among reference i among m k =
           rw m
           (walked reference n i among (omega (arith, walk_length reference n among, ap (λ (j : ℕ). length (walk reference j)) m))).among
 
@@ -110,6 +110,6 @@ even_stack w h s even even' a b =
 pub plane_stack : (n w h p : ℕ) (mosaics : ℕ → List ℕ) → n ≤ 16 → w ≤ 8192 → h ≤ 8192 → p < 4
     → Stands n (plane_width w p) (plane_height h p) (joined n (λ (k : ℕ). plane w h (mosaics k) p)) (λ (k : ℕ). plane w h (mosaics k) p)
 plane_stack n w h p mosaics few a b l =
-    let small = plane-small w h (mosaics 0) p l a b in
+    let small = plane_small w h (mosaics 0) p l a b in
     stands n (plane_width w p) (plane_height h p) (λ (k : ℕ). plane w h (mosaics k) p) few (omega (arith, small.0)) (omega (arith, small.1))
     (λ k _. plane_length w h (mosaics k) p)

@@ -83,26 +83,26 @@ module _ (w h : ℕ) (s : List ℕ) where
 
     -- no side is over 4,096
     module _ (a : w ≤ 8192) (b : h ≤ 8192) where
-      pub plane-small : (plane_width w p ≤ 4096) × (plane_height h p ≤ 4096)
+      pub plane_small : (plane_width w p ≤ 4096) × (plane_height h p ≤ 4096)
       unfolding plane_width plane_height
-      plane-small = (omega (arith, half_le (p % 2) w (omega arith)), omega (arith, half_le (p / 2) h (omega arith)))
+      plane_small = (omega (arith, half_le (p % 2) w (omega arith)), omega (arith, half_le (p / 2) h (omega arith)))
 
       -- its part of the list is the plane
-      pub plane-part : part_of (plane_at w h p) (apart w h s) ≡ plane w h s p
+      pub plane_part : part_of (plane_at w h p) (apart w h s) ≡ plane w h s p
       unfolding plane_at either_over
-      plane-part =
+      plane_part =
           let n = plane_width w p in
           let m = plane_height h p in
-          let wide : ltb 8192 n ≡ false = le-ltb 8192 n (omega (arith, plane-small.0)) in
-          let high : ltb 8192 m ≡ false = le-ltb 8192 m (omega (arith, plane-small.1)) in
+          let wide : ltb 8192 n ≡ false = le-ltb 8192 n (omega (arith, plane_small.0)) in
+          let high : ltb 8192 m ≡ false = le-ltb 8192 m (omega (arith, plane_small.1)) in
           sym (part_inside (plane_at w h p) (apart w h s) (ap (λ (t : Bool). t || ltb 8192 m) wide ∙ high) plane_ends) ∙ plane_stands
 
       -- and passes the aligner's checks 1 and 2 of a frame of its sides
-      pub plane-frame : {A : Type 0} (v : A) → accepted v
+      pub plane_frame : {A : Type 0} (v : A) → accepted v
           ≡ answer (side_over (plane_width w p) ∷ side_over (plane_height h p) ∷ wrong_length (length (part_of (plane_at w h p) (apart w h s))) (plane_width w p * plane_height h p) ∷ []) v
-      plane-frame v =
-          side_skip v _ _ (omega (arith, plane-small.0))
-          (side_skip v _ _ (omega (arith, plane-small.1)) (length_skip v _ _ _ (ap length plane-part ∙ plane_length p) (done v)))
+      plane_frame v =
+          side_skip v _ _ (omega (arith, plane_small.0))
+          (side_skip v _ _ (omega (arith, plane_small.1)) (length_skip v _ _ _ (ap length plane_part ∙ plane_length p) (done v)))
 
   -- ---- a sample is found at its place
 

@@ -27,18 +27,18 @@ module _ (w h n : ℕ) (e : n ≡ words_per_row w) (s : (w ≤ 8192) × (h ≤ 8
     long_stop l ne = sides_skip a w h _ s (length_stop a words (bitmap_words w h) l (λ p. ne (p ∙ sym are)))
 
     module _ (long : words ≡ h * n) where
-      pub long-skip : (l : List Check) {r : Answer A} → r ≡ answer l a → r ≡ answer (side_over w ∷ side_over h ∷ wrong_length words (bitmap_words w h) ∷ l) a
-      long-skip l p = sides_skip a w h _ s (length_skip a words (bitmap_words w h) l (long ∙ are) p)
+      pub long_skip : (l : List Check) {r : Answer A} → r ≡ answer l a → r ≡ answer (side_over w ∷ side_over h ∷ wrong_length words (bitmap_words w h) ∷ l) a
+      long_skip l p = sides_skip a w h _ s (length_skip a words (bitmap_words w h) l (long ∙ are) p)
 
       -- a pixel: its column refuses, its row refuses, or both pass
-      pub column-stop : (x y : ℕ) → w ≤ x → refused 11 [] ≡ answer (pixel_checks w h words x y) a
+      pub column_stop : (x y : ℕ) → w ≤ x → refused 11 [] ≡ answer (pixel_checks w h words x y) a
       unfolding pixel_checks
-      column-stop x y p = long-skip _ (pixel_stop a x w _ p)
+      column_stop x y p = long_skip _ (pixel_stop a x w _ p)
 
-      pub row-stop : (x y : ℕ) → x < w → h ≤ y → refused 11 [] ≡ answer (pixel_checks w h words x y) a
+      pub row_stop : (x y : ℕ) → x < w → h ≤ y → refused 11 [] ≡ answer (pixel_checks w h words x y) a
       unfolding pixel_checks
-      row-stop x y p q = long-skip _ (pixel_skip a x w _ p (pixel_stop a y h _ q))
+      row_stop x y p q = long_skip _ (pixel_skip a x w _ p (pixel_stop a y h _ q))
 
-      pub pixel-taken : (x y : ℕ) → x < w → y < h → accepted a ≡ answer (pixel_checks w h words x y) a
+      pub pixel_taken : (x y : ℕ) → x < w → y < h → accepted a ≡ answer (pixel_checks w h words x y) a
       unfolding pixel_checks
-      pixel-taken x y p q = long-skip _ (pixel_skip a x w _ p (pixel_skip a y h _ q (done a)))
+      pixel_taken x y p q = long_skip _ (pixel_skip a x w _ p (pixel_skip a y h _ q (done a)))

@@ -152,6 +152,6 @@ module _ (a : Stack) (small : Small a) where
             sum = ap (λ (m : ℕ). offset (shift_of a m) (step_of a k)) g ∙ sym (shift_by_neighbour a k (λ c. frame.apart (sym e ∙ c)));
           }
 
-      pub all-walked : a.frames ≤ i + 1 → list ≡ sets old 0 (listed (shifts a))
+      pub all_walked : a.frames ≤ i + 1 → list ≡ sets old 0 (listed (shifts a))
       unfolding put_all
-      all-walked l = ap (put_all (shift_of a) list) (sym (drop_of_length-le frames {i = i} (omega (arith, many)))) ∙ q.left ∙ all_put
+      all_walked l = ap (put_all (shift_of a) list) (sym (drop_of_length-le frames {i = i} (omega (arith, many)))) ∙ q.left ∙ all_put

@@ -2,7 +2,7 @@
 -- in place of the answer: what a call says is a function of the defined answer.
 use Rattle.std.specs.Prelude.{ℕ, ◌*◌, ◌≡◌, List, ◌++◌, ℤ, length, drop}
 use Rattle.definitions.specs.Geometry.{listed}
-use Rattle.definitions.specs.Align.{Options, Exposure, Stack, Stepped, stepped, stack_of, shifts, step_bytes, step_words, stack_bytes, stack_words}
+use Rattle.definitions.specs.Align.{Options, Stack, Stepped, stepped, stack_of, shifts, step_bytes, step_words, stack_bytes, stack_words}
 use Rattle.definitions.specs.Refusals.{Check, Answer, answer, after, Scratch, step_checks, stack_checks, survey_checks, report_checks}
 use Rattle.definitions.specs.Report.{Terms, verdicts, records_needed, records, records_bytes, report_crop}
 use Rattle.mtb_align.specs.Survey.{Reported}

@@ -8,10 +8,10 @@ use Rattle.std.proofs.Math.ListN.{length, get_or, drop}
 use Rattle.std.proofs.Math.Seq.{drop_at}
 use Rattle.definitions.specs.Build.{build}
 use Rattle.definitions.specs.Geometry.{listed}
-use Rattle.definitions.specs.Align.{stack_of, shifts, stack_bytes, stack_words}
+use Rattle.definitions.specs.Align.{shifts, stack_bytes, stack_words}
 use Rattle.definitions.specs.Refusals.{Check, Answer, accepted, refused, answer, FreeUpTo}
 use Rattle.definitions.specs.Report.{Record, records, records_needed, records_bytes, record_at, verdict, verdicts}
-use Rattle.laws.specs.checks.Checks.{FirstFails, first_fails, all_pass, same_value, accepted_too, after-accepted, after-refused}
+use Rattle.laws.specs.checks.Checks.{FirstFails, first_fails, all_pass, same_value, accepted_too, after_accepted, after_refused}
 use Rattle.laws.specs.checks.ChecksReport.{SurveyInOrder, survey_in_order, survey_refused, accepted_fits, refused_either}
 use Rattle.laws.specs.report.Demand.{NamesRivals, Judges, Crops, demand_three}
 use Rattle.laws.specs.search.Free.{free_after, kept_after}
@@ -109,8 +109,8 @@ module _ (a : ReportAsked) (old new : ReportLent) where
       let near = (in_order fit.0).near in
       let table = demand_three st q in
       let rest = drop (20 * needed) old.lists.records in
-      let space : new.lists.records ≡ records_bytes (records st q) ++ rest = p.written.recorded ∙ after-accepted (promised a) (all_checks a) _ _ all in
-      let judgements : new.lists.verdicts ≡ build st.frames (verdict st q) = p.written.judged ∙ after-accepted (promised a) (all_checks a) _ _ all in
+      let space : new.lists.records ≡ records_bytes (records st q) ++ rest = p.written.recorded ∙ after_accepted (promised a) (all_checks a) _ _ all in
+      let judgements : new.lists.verdicts ≡ build st.frames (verdict st q) = p.written.judged ∙ after_accepted (promised a) (all_checks a) _ _ all in
       let read : records_read s.records new ≡ records st q =
       ap₂ (λ (n : ℕ) (b : List ℕ). build n (record_at b)) (count ∙ sym (records_number st q)) space ∙ table.read_back small near rest in
       record {
@@ -128,7 +128,7 @@ module _ (a : ReportAsked) (old new : ReportLent) where
         rivals = subst (NamesRivals st q) (sym read) table.rivals;
         number = ap length judgements ∙ build_length st.frames (verdict st q);
         judged = λ k h. subst (Judges st q k) (sym (ap (λ (l : List ℕ). get_or l k 0) judgements ∙ build_at st.frames (verdict st q) k 0 h)) (table.judged k);
-        moved = p.written.placed ∙ after-accepted (promised a) (all_checks a) _ _ all;
+        moved = p.written.placed ∙ after_accepted (promised a) (all_checks a) _ _ all;
         cropped = subst (Crops st) (sym (ap (λ (r : Reported). r.crop) said)) table.cropped;
         scratch = free fit.0 p;
       }
@@ -142,9 +142,9 @@ module _ (a : ReportAsked) (old new : ReportLent) where
       let either = refused_either (first_checks a) (records_needed st q) a.records (promised a) all in
       record {
         first = first_fails (promised a) (all_checks a) all;
-        shifts = p.written.placed ∙ after-refused (promised a) (all_checks a) _ _ all;
-        verdicts = p.written.judged ∙ after-refused (promised a) (all_checks a) _ _ all;
-        records = p.written.recorded ∙ after-refused (promised a) (all_checks a) _ _ all;
+        shifts = p.written.placed ∙ after_refused (promised a) (all_checks a) _ _ all;
+        verdicts = p.written.judged ∙ after_refused (promised a) (all_checks a) _ _ all;
+        records = p.written.recorded ∙ after_refused (promised a) (all_checks a) _ _ all;
         scratch = λ ne. ⊎_elim
             (λ e. (kept_after (first_checks a) (stack_bytes (stack_reported a)) e p.pixels, kept_after (first_checks a) (stack_words (stack_reported a)) e p.maps))
             (λ t. absurd (ne t.1))

@@ -1,5 +1,5 @@
 -- What the inner functions of the search compute: four bitmaps one after another in a list of words, and the costs of two frames.
-use Rattle.std.specs.Prelude.{ℕ, ◌+◌, ◌*◌, ◌≤◌, ◌≡◌, List, ◌++◌, length, take, drop}
+use Rattle.std.specs.Prelude.{ℕ, ◌*◌, ◌≤◌, ◌≡◌, List, ◌++◌, length, take, drop}
 use Rattle.definitions.specs.Geometry.{Shift}
 use Rattle.definitions.specs.Threshold.{cut}
 use Rattle.definitions.specs.Bitmap.{bitmap_words, packed}

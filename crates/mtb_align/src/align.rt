@@ -287,12 +287,12 @@ pub fn shift(
           reference = reference.now;
           target = target.now;
           options = options_in options;
-          bytes = length bytes.entry.now;
+          bytes = length bytes.old;
           words = length words.old;
         })
         (step_answer result)
-        (record { bytes = bytes.entry.now; words = words.old })
-        (record { bytes = bytes.exit.now; words = words.new }) }
+        (record { bytes = bytes.old; words = words.old })
+        (record { bytes = bytes.new; words = words.new }) }
 {
     match step_fits(
         width,
@@ -338,19 +338,19 @@ pub fn align_stack(
 ) -> Outcome
     ensures { StackPromise itself
         (record {
-          widths = widths.entry.now;
+          widths = widths.now;
           heights = heights.now;
           percentiles = percentiles.now;
           samples = samples.now;
           reference = reference;
           options = options_in options;
-          shifts = length shifts.entry.now;
+          shifts = length shifts.old;
           bytes = length bytes.old;
           words = length words.old;
         })
         (outcome result)
-        (record { shifts = shifts.entry.now; bytes = bytes.old; words = words.old })
-        (record { shifts = shifts.exit.now; bytes = bytes.new; words = words.new }) }
+        (record { shifts = shifts.old; bytes = bytes.old; words = words.old })
+        (record { shifts = shifts.new; bytes = bytes.new; words = words.new }) }
 {
     match stack_fits(
         widths,

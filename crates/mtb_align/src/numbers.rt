@@ -1,4 +1,4 @@
-// Methods of numbers that the Rust calls and the language has not, by their names.
+// Methods of numbers that the Rust calls, by their names.
 ghost use Rattle.std.specs.Prelude.{◌≡◌, ◌-◌, ◌≤◌, max, min};
 ghost use Rattle.definitions.specs.Align.{log2};
 

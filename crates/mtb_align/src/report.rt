@@ -111,8 +111,8 @@ fn write_report(
     requires shifts_len { (length shifts.old ≡ 2 * frames.count) × (length verdicts.old ≡ frames.count) }
     ensures written { Written itself (report_checks [] (records_needed (stack_in frames percentiles.now samples.now) (terms_in terms)) (length records.old))
         (stack_in frames percentiles.now samples.now) (terms_in terms) (report_answer result)
-        (record { shifts = shifts.entry.now; verdicts = verdicts.old; records = records.old })
-        (record { shifts = shifts.exit.now; verdicts = verdicts.new; records = records.new }) }
+        (record { shifts = shifts.old; verdicts = verdicts.old; records = records.old })
+        (record { shifts = shifts.new; verdicts = verdicts.new; records = records.new }) }
     ensures words { FreeUpTo (stack_words (stack_in frames percentiles.now samples.now)) words.old words.new }
 {
     if records.len() < RECORD_BYTES * needed {
@@ -160,8 +160,8 @@ fn report_within(
     requires shifts_len { (length shifts.old ≡ 2 * frames.count) × (length verdicts.old ≡ frames.count) }
     ensures written { Written itself (report_checks [] (records_needed (stack_in frames percentiles.now samples.now) (terms_in terms)) (length records.old))
         (stack_in frames percentiles.now samples.now) (terms_in terms) (report_answer result)
-        (record { shifts = shifts.entry.now; verdicts = verdicts.old; records = records.old })
-        (record { shifts = shifts.exit.now; verdicts = verdicts.new; records = records.new }) }
+        (record { shifts = shifts.old; verdicts = verdicts.old; records = records.old })
+        (record { shifts = shifts.new; verdicts = verdicts.new; records = records.new }) }
     ensures bytes { FreeUpTo (stack_bytes (stack_in frames percentiles.now samples.now)) bytes.old bytes.new }
     ensures words { FreeUpTo (stack_words (stack_in frames percentiles.now samples.now)) words.old words.new }
     ensures placed { placed.new ≡ sets placed.old 0 (listed (stack_shifts (stack_in frames percentiles.now samples.now))) }
@@ -215,13 +215,13 @@ pub fn report(
     ensures { ReportPromise itself
         (record {
           stack = record {
-            widths = widths.entry.now;
+            widths = widths.now;
             heights = heights.now;
             percentiles = percentiles.now;
             samples = samples.now;
             reference = reference;
             options = options_in options;
-            shifts = length shifts.entry.now;
+            shifts = length shifts.old;
             bytes = length bytes.old;
             words = length words.old;
           };
@@ -231,12 +231,12 @@ pub fn report(
         })
         (report_answer result)
         (record {
-          lists = record { shifts = shifts.entry.now; verdicts = verdicts.old; records = records.old };
+          lists = record { shifts = shifts.old; verdicts = verdicts.old; records = records.old };
           bytes = bytes.old;
           words = words.old;
         })
         (record {
-          lists = record { shifts = shifts.exit.now; verdicts = verdicts.new; records = records.new };
+          lists = record { shifts = shifts.new; verdicts = verdicts.new; records = records.new };
           bytes = bytes.new;
           words = words.new;
         }) }

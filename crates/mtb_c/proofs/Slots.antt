@@ -5,7 +5,7 @@ use mathlib.Core.List.{List}
 use Prim.Native.Nat.{ℕ}
 use lib.Seq.{sets}
 use Rattle.definitions.specs.Refusals.{Check, Answer, accepted, refused, answer, after}
-use Rattle.laws.specs.checks.Checks.{value_is, accepted_too, refused_too, after-accepted, after-refused}
+use Rattle.laws.specs.checks.Checks.{value_is, accepted_too, refused_too, after_accepted, after_refused}
 use Rattle.mtb_c.specs.Status.{status_of, values_after}
 
 module _ {A : Type 0} (l : List Check) (v : A) where
@@ -15,7 +15,7 @@ module _ {A : Type 0} (l : List Check) (v : A) where
     status_accepted = sym (ap status_of (accepted_too v (tt {0}) l (sym e)))
 
     pub stored : {B : Type 0} (part : A → B) (old : B) → part w ≡ after l (part v) old
-    stored part old = ap part (sym (value_is l (sym e))) ∙ sym (after-accepted v l (part v) old (sym e))
+    stored part old = ap part (sym (value_is l (sym e))) ∙ sym (after_accepted v l (part v) old (sym e))
 
     pub values_kept : (old : List ℕ) → old ≡ values_after (answer l (tt {0})) old
     values_kept old = sym (ap (λ (a : Answer (Unit {0})). values_after a old) (accepted_too v (tt {0}) l (sym e)))
@@ -26,7 +26,7 @@ module _ {A : Type 0} (l : List Check) (v : A) where
     status_refused p = p ∙ sym (ap status_of (refused_too v (tt {0}) l (sym e)))
 
     pub kept : {B : Type 0} (new old : B) → old ≡ after l new old
-    kept new old = sym (after-refused v l new old (sym e))
+    kept new old = sym (after_refused v l new old (sym e))
 
     pub values_told : (old : List ℕ) {new : List ℕ} → new ≡ sets old 0 values → new ≡ values_after (answer l (tt {0})) old
     values_told old p = p ∙ sym (ap (λ (a : Answer (Unit {0})). values_after a old) (refused_too v (tt {0}) l (sym e)))

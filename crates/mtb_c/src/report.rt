@@ -39,13 +39,13 @@ pub extern "C" fn mtb_report(
 ) -> u32
     ensures { (let a : ReportAsked = record {
       stack = record {
-        widths = widths.entry.now;
+        widths = widths.now;
         heights = heights.now;
         percentiles = percentiles.now;
         samples = samples.now;
         reference = reference;
         options = options_of bits tolerance subsampled;
-        shifts = length shifts.entry.now;
+        shifts = length shifts.old;
         bytes = length bytes.old;
         words = length words.old;
       };
@@ -56,12 +56,12 @@ pub extern "C" fn mtb_report(
         let s : Reported = reported_of (stack_asked a.stack) a.terms in
         ReportPromise status_of a result
         (record {
-          lists = record { shifts = shifts.entry.now; verdicts = verdicts.old; records = records.old };
+          lists = record { shifts = shifts.old; verdicts = verdicts.old; records = records.old };
           bytes = bytes.old;
           words = words.old;
         })
         (record {
-          lists = record { shifts = shifts.exit.now; verdicts = verdicts.new; records = records.new };
+          lists = record { shifts = shifts.new; verdicts = verdicts.new; records = records.new };
           bytes = bytes.new;
           words = words.new;
         })

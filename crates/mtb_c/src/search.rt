@@ -39,12 +39,12 @@ pub extern "C" fn mtb_shift(
       reference = reference.now;
       target = target.now;
       options = options_of bits tolerance subsampled;
-      bytes = length bytes.entry.now;
+      bytes = length bytes.old;
       words = length words.old;
     } in
         StepPromise status_of a result
-        (record { bytes = bytes.entry.now; words = words.old })
-        (record { bytes = bytes.exit.now; words = words.new })
+        (record { bytes = bytes.old; words = words.old })
+        (record { bytes = bytes.new; words = words.new })
         × (x.new ≡ after (checks_of_step a) (step_asked a).shift.x x.old)
         × (y.new ≡ after (checks_of_step a) (step_asked a).shift.y y.old)
         × (comparisons.new ≡ after (checks_of_step a) (step_asked a).comparisons comparisons.old)
@@ -99,19 +99,19 @@ pub extern "C" fn mtb_align_stack(
     values: &mut [usize; 5],
 ) -> u32
     ensures { (let a : StackAsked = record {
-      widths = widths.entry.now;
+      widths = widths.now;
       heights = heights.now;
       percentiles = percentiles.now;
       samples = samples.now;
       reference = reference;
       options = options_of bits tolerance subsampled;
-      shifts = length shifts.entry.now;
+      shifts = length shifts.old;
       bytes = length bytes.old;
       words = length words.old;
     } in
         StackPromise status_of a result
-        (record { shifts = shifts.entry.now; bytes = bytes.old; words = words.old })
-        (record { shifts = shifts.exit.now; bytes = bytes.new; words = words.new })
+        (record { shifts = shifts.old; bytes = bytes.old; words = words.old })
+        (record { shifts = shifts.new; bytes = bytes.new; words = words.new })
         × (values.new ≡ values_after (answer (checks_of_stack a) (tt {0})) values.old)) }
 {
     let options = Options {

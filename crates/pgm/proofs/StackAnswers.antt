@@ -5,9 +5,9 @@ use mathlib.Core.Logic.{inl, inr}
 use Prim.Native.Nat.{ℕ, ◌<◌, ◌≤◌}
 use lib.ListN.{length}
 use Rattle.definitions.specs.Refusals.{Check, Answer, accepted, refused, answer, after, wrong_length}
-use Rattle.laws.specs.checks.Checks.{value_is, done, length_stop, length_skip, accepted_too, refused_too, after-accepted, after-refused}
+use Rattle.laws.specs.checks.Checks.{value_is, done, length_stop, length_skip, accepted_too, refused_too, after_accepted, after_refused}
 use Rattle.pgm_format.specs.Stack.{images_from, next_from, images_checks, widths_of, heights_of, joined_samples, read_stack_checks, read_stack}
-use Rattle.pgm_format.specs.Runs.{StackRefusal, frames-over, lists-unequal, images-refused, images-passed, stack_reads}
+use Rattle.pgm_format.specs.Runs.{StackRefusal, frames_over_lem, lists_unequal, images_refused, images_passed, stack_reads}
 use Rattle.pgm.specs.Inner.{Extent}
 use Rattle.pgm.proofs.Runs.{extent}
 
@@ -34,21 +34,21 @@ module _ (file : List ℕ) (at w h s : ℕ) where
   refusal {n} {v} p = sym (((stack_reads file at w h s).refusal n v).1 p)
 
   pub widths_many : 16 < w → refused 6 [] ≡ read_stack file at w h s
-  widths_many p = refusal (frames-over (inl p))
+  widths_many p = refusal (frames_over_lem (inl p))
 
   pub heights_many : 16 < h → refused 6 [] ≡ read_stack file at w h s
-  heights_many p = refusal (frames-over (inr p))
+  heights_many p = refusal (frames_over_lem (inr p))
 
   pub lists_differ : w ≤ 16 → h ≤ 16 → (h ≡ w → ⊥) → refused 2 [] ≡ read_stack file at w h s
-  lists_differ q r p = refusal (lists-unequal q r p)
+  lists_differ q r p = refusal (lists_unequal q r p)
 
   pub run_refused : {n : ℕ} {v : List ℕ} → ListsFit w h → refused n v ≡ answer (images_checks file at w) (extent file at w) → refused n v ≡ read_stack file at w h s
-  run_refused p a = sym (images-refused file at w h s p.0 p.1 (refused_too _ (next_from file at w) (images_checks file at w) (sym a)))
+  run_refused p a = sym (images_refused file at w h s p.0 p.1 (refused_too _ (next_from file at w) (images_checks file at w) (sym a)))
 
   module _ {x : Extent} (a : accepted x ≡ answer (images_checks file at w) (extent file at w)) (p : ListsFit w h) where
     past_images : {r : Answer ℕ}
         → r ≡ answer (wrong_length s (length (joined_samples file (images_from file at w))) ∷ []) (next_from file at w) → r ≡ read_stack file at w h s
-    past_images q = q ∙ images-passed file at w h s p.0 p.1 (accepted_too _ _ (images_checks file at w) (sym a))
+    past_images q = q ∙ images_passed file at w h s p.0 p.1 (accepted_too _ _ (images_checks file at w) (sym a))
 
     pub samples_wrong : (s ≡ x.samples → ⊥) → refused 2 [] ≡ read_stack file at w h s
     samples_wrong q = past_images (length_stop _ s _ [] (λ b. q (b ∙ sym (samples_are file at w a))))
@@ -77,7 +77,7 @@ module _ (file : List ℕ) (at : ℕ) (widths heights samples : List ℕ) where
   pub as_they_were : {n : ℕ} {v : List ℕ} → refused n v ≡ stack_answer → After (refused n v) widths heights samples
   unfolding read_stack
   as_they_were e =
-      let kept : (new old : List ℕ) → old ≡ after checks new old = λ new old. sym (after-refused _ checks new old (sym e)) in
+      let kept : (new old : List ℕ) → old ≡ after checks new old = λ new old. sym (after_refused _ checks new old (sym e)) in
       (e, kept _ _, kept _ _, kept _ _)
 
   pub as_laid : {next : ℕ} {a b c : List ℕ} → accepted next ≡ stack_answer
@@ -85,5 +85,5 @@ module _ (file : List ℕ) (at : ℕ) (widths heights samples : List ℕ) where
       → c ≡ joined_samples file (images_from file at (length widths)) → After (accepted next) a b c
   unfolding read_stack
   as_laid e p q r =
-      let new : (new old : List ℕ) → new ≡ after checks new old = λ new old. sym (after-accepted _ checks new old (sym e)) in
+      let new : (new old : List ℕ) → new ≡ after checks new old = λ new old. sym (after_accepted _ checks new old (sym e)) in
       (e, p ∙ new _ _, q ∙ new _ _, r ∙ new _ _)

@@ -7,7 +7,7 @@ use lib.ListN.{length, set, length-append}
 use lib.Seq.{sets}
 use Rattle.definitions.specs.Decimal.{decimal}
 use Rattle.definitions.specs.Refusals.{Answer, accepted, refused, answer, after}
-use Rattle.laws.specs.checks.Checks.{after-accepted, after-refused}
+use Rattle.laws.specs.checks.Checks.{after_accepted, after_refused}
 use Rattle.laws.specs.general.Decimals.{decimal_one, decimal_more, decimal_longer, decimal_some}
 use Rattle.laws.specs.general.Writes.{sets_append, sets_front, set_before}
 use Rattle.pgm_format.specs.Pgm.{Frame, header_bytes, pgm, write_checks, write, written}
@@ -78,7 +78,7 @@ module _ (f : Frame) (old : List ℕ) where
 
   pub as_it_was : {n : ℕ} {v : List ℕ} → refused n v ≡ answer (write_checks f (length old)) (length (pgm f)) → After (refused n v) old
   unfolding write
-  as_it_was e = (e, sym (after-refused _ (write_checks f (length old)) (written f old) old (sym e)))
+  as_it_was e = (e, sym (after_refused _ (write_checks f (length old)) (written f old) old (sym e)))
 
   -- the header and then the samples are put
   pub as_written : {n start : ℕ} {mid new : List ℕ} → accepted (length (pgm f)) ≡ answer (write_checks f (length old)) (length (pgm f))
@@ -89,5 +89,5 @@ module _ (f : Frame) (old : List ℕ) where
   as_written e q h s p r = (
     ap accepted q ∙ e,
     r ∙ behind old 0 (header_bytes f.width f.height) f.samples p (omega (arith, s)) ∙ sets_front old (pgm f) h
-        ∙ sym (after-accepted _ (write_checks f (length old)) (written f old) old (sym e)),
+        ∙ sym (after_accepted _ (write_checks f (length old)) (written f old) old (sym e)),
   )

@@ -188,8 +188,8 @@ digits_all (b ∷ l) i h = on (λ j k. digits_all l j k) (is_digit b) refl i h
 -- ---- readings
 
 module _ {A : Type 0} where
-  pub found-or-missing {ℓ} : {X : Type ℓ} {a : A} {l : List ℕ} → missing ≡ found a l → X
-  found-or-missing e = let z : ◌≡◌ {A = ℕ} 0 1 = cc in absurd (never z)
+  pub found_or_missing {ℓ} : {X : Type ℓ} {a : A} {l : List ℕ} → missing ≡ found a l → X
+  found_or_missing e = let z : ◌≡◌ {A = ℕ} 0 1 = cc in absurd (never z)
     where
       never : ◌≡◌ {A = ℕ} 0 1 → ⊥
       never h = omega arith
@@ -254,8 +254,8 @@ field_front l {n} {r} e = on (ltb (length d) (length l)) (ltb 0 (length (digits_
 
     on : (s t : Bool) → ltb (length d) (length l) ≡ s → ltb 0 (length (digits_of d)) ≡ t
         → cond (s && t) (found (value_from 0 (digits_of d)) (after_digits d)) missing ≡ found n r → FieldFront l n r
-    on false t p q k = found-or-missing k
-    on true false p q k = found-or-missing k
+    on false t p q k = found_or_missing k
+    on true false p q k = found_or_missing k
     on true true p q k =
         let some : 0 < length (digits_of d) = ltb-true 0 (length (digits_of d)) q in
         let split : length d ≡ length (digits_of d) + length (after_digits d) = ap length (digits_front d) ∙ length-append (digits_of d) (after_digits d) in

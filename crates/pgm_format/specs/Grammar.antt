@@ -11,9 +11,9 @@ use Rattle.laws.specs.checks.Checks.{stop, skip}
 use Rattle.laws.specs.general.Cases.{lt_or_le, eq_or_ne}
 use Rattle.pgm_format.specs.Pgm.{Header, HeaderAt, Image, ImageAt, Reading, missing, found, Sizes, header_of, is_missing, sizes_in, rest_in}
 use Rattle.pgm_format.specs.Pgm.{malformed, sizes_checks, read_checks, image_from, image_read, read, samples_of}
-use Rattle.pgm_format.specs.Fronts.{found-or-missing, same_found}
+use Rattle.pgm_format.specs.Fronts.{found_or_missing, same_found}
 use Rattle.pgm_format.specs.Parts.{part_inside}
-use Rattle.pgm_format.specs.SizeChecks.{over_stop, highest_stop, short-stop, all_pass}
+use Rattle.pgm_format.specs.SizeChecks.{over_stop, highest_stop, short_stop, all_pass}
 use Rattle.pgm_format.specs.Headers.{sizes, at_read, at_front, at_long}
 
 -- the longest side is over 8,192 where one is
@@ -94,7 +94,7 @@ module _ (file : List ℕ) (at : ℕ) where
   highest_refused o = answered o.header ∙ sym (highest_stop _ (sizes o.width o.height o.highest) (length o.rest) (omega (arith, o.narrow, o.low)) o.other)
 
   too_short_refused : TooShort → read file at ≡ refused 15 []
-  too_short_refused o = answered o.header ∙ sym (short-stop _ (sizes o.width o.height 255) (length o.rest) (omega (arith, o.narrow, o.low)) refl o.short)
+  too_short_refused o = answered o.header ∙ sym (short_stop _ (sizes o.width o.height 255) (length o.rest) (omega (arith, o.narrow, o.low)) refl o.short)
 
   image_accepted : (i : Image) → ImageAt file at i → read file at ≡ accepted i
   image_accepted i a =
@@ -150,7 +150,7 @@ module _ (file : List ℕ) (at : ℕ) where
 
       short : s.width ≤ 8192 → s.height ≤ 8192 → s.highest ≡ 255 → length rest < s.width * s.height → Means (answer (sizes_checks s (length rest)) (image_from s (length file - length rest)))
       short w h t k =
-          subst Means (short-stop _ s (length rest) (omega (arith, w, h)) t k)
+          subst Means (short_stop _ s (length rest) (omega (arith, w, h)) t k)
           (refl, inr (inr (inr (refl, record { width = s.width; height = s.height; rest = rest; header = header t rest refl; narrow = w; low = h; short = k }))))
 
       enough : s.width ≤ 8192 → s.height ≤ 8192 → s.highest ≡ 255 → s.width * s.height ≤ length rest → Means (answer (sizes_checks s (length rest)) (image_from s (length file - length rest)))
@@ -173,7 +173,7 @@ module _ (file : List ℕ) (at : ℕ) where
     where
       on : (r : Reading Sizes) → header_of (drop at file) ≡ r → Means (read file at)
       on missing e =
-          subst Means (sym (read_none e)) (refl, inl (refl, λ w h top rest a. found-or-missing (sym e ∙ at_read file at a)))
+          subst Means (sym (read_none e)) (refl, inl (refl, λ w h top rest a. found_or_missing (sym e ∙ at_read file at a)))
       on (found s rest) e = subst Means (sym (read_some e)) (found_means s rest (at_front file at e))
 
   refused_means : {n : ℕ} {v : List ℕ} → read file at ≡ refused n v → Means (refused n v)

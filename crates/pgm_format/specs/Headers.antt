@@ -4,7 +4,7 @@ use Rattle.std.proofs.Common.{arith, sym, ap, subst, ◌∙◌, append_assoc, �
 use Rattle.definitions.specs.Decimal.{is_digit}
 use Rattle.laws.specs.general.Cases.{lt_or_le}
 use Rattle.pgm_format.specs.Pgm.{is_white, Field, Header, HeaderAt, Reading, missing, found, and_then, magic, field_of, one_white, Sizes, header_of}
-use Rattle.pgm_format.specs.Fronts.{white_not_digit, found-or-missing, same_found, field_read, field_not_digit, field_front}
+use Rattle.pgm_format.specs.Fronts.{white_not_digit, found_or_missing, same_found, field_read, field_not_digit, field_front}
 
 -- ---- a header
 
@@ -61,18 +61,18 @@ record Both {A B : Type 0} (x : Reading A) (f : A → List ℕ → Reading B) (b
 
 both : {A B : Type 0} (x : Reading A) (f : A → List ℕ → Reading B) {b : B} {rest : List ℕ} → and_then x f ≡ found b rest → Both x f b rest
 unfolding and_then
-both missing f e = found-or-missing e
+both missing f e = found_or_missing e
 both (found a l) f e = record { first = a; middle = l; one = refl; two = e }
 
 magic_front : (l : List ℕ) {u : Unit {0}} {r : List ℕ} → magic l ≡ found u r → l ≡ 80 ∷ 53 ∷ r
 unfolding magic
-magic_front [] e = found-or-missing e
-magic_front (p ∷ []) e = found-or-missing e
+magic_front [] e = found_or_missing e
+magic_front (p ∷ []) e = found_or_missing e
 magic_front (p ∷ five ∷ l) {u} {r} e = on (eqb p 80) (eqb five 53) refl refl e
   where
     on : (s t : Bool) → eqb p 80 ≡ s → eqb five 53 ≡ t → cond (s && t) (found tt l) missing ≡ found u r → p ∷ five ∷ l ≡ 80 ∷ 53 ∷ r
-    on false t a b k = found-or-missing k
-    on true false a b k = found-or-missing k
+    on false t a b k = found_or_missing k
+    on true false a b k = found_or_missing k
     on true true a b k =
         ap (λ (q : ℕ). q ∷ five ∷ l) (eqb-true p 80 a)
         ∙ ap (λ (q : ℕ). 80 ∷ q ∷ l) (eqb-true five 53 b)
@@ -86,11 +86,11 @@ record WhiteFront {A : Type 0} (a b : A) (l rest : List ℕ) : Type 0 where
 
 white_front : {A : Type 0} (a : A) (l : List ℕ) {b : A} {rest : List ℕ} → one_white a l ≡ found b rest → WhiteFront a b l rest
 unfolding one_white
-white_front a [] e = found-or-missing e
+white_front a [] e = found_or_missing e
 white_front a (c ∷ l) {b} {rest} e = on (is_white c) refl e
   where
     on : (t : Bool) → is_white c ≡ t → cond t (found a l) missing ≡ found b rest → WhiteFront a b (c ∷ l) rest
-    on false p k = found-or-missing k
+    on false p k = found_or_missing k
     on true p k = record { last = c; ends = p; parts = ap (λ (m : List ℕ). c ∷ m) (same_found k).1; same = (same_found k).0 }
 
 pub header_front : (l : List ℕ) {s : Sizes} {rest : List ℕ} → header_of l ≡ found s rest → HeaderFront l s rest
@@ -145,7 +145,7 @@ at_front file at {s} {rest} e = ⊎_elim
       place = length-take-le at file (omega arith);
       header = f.is;
     })
-    (λ (h : length file ≤ at). found-or-missing (sym nothing ∙ ap header_of (sym (drop_of_length-le file h)) ∙ e))
+    (λ (h : length file ≤ at). found_or_missing (sym nothing ∙ ap header_of (sym (drop_of_length-le file h)) ∙ e))
     (lt_or_le at (length file))
 
 -- what stands before the rest

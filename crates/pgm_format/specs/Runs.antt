@@ -138,10 +138,10 @@ module _ (file : List ℕ) where
     -- why a stack is refused, in the order of the checks: 6, 2 for the heights, 13 for a place past the end, even where no image is asked for,
     -- the refusal of the first image that has one, 2 for the samples
     pub data StackRefusal : ℕ → List ℕ → Type 0 where
-      frames-over : (16 < widths) ⊎ (16 < heights) → StackRefusal 6 []
-      lists-unequal : widths ≤ 16 → heights ≤ 16 → (heights ≡ widths → ⊥) → StackRefusal 2 []
+      frames_over_lem : (16 < widths) ⊎ (16 < heights) → StackRefusal 6 []
+      lists_unequal : widths ≤ 16 → heights ≤ 16 → (heights ≡ widths → ⊥) → StackRefusal 2 []
       past_end : widths ≤ 16 → heights ≡ widths → length file < at → StackRefusal 13 []
-      image-refused : widths ≤ 16 → heights ≡ widths → (n : ℕ) (v : List ℕ) → Stopped at widths n v → StackRefusal n v
+      image_refused : widths ≤ 16 → heights ≡ widths → (n : ℕ) (v : List ℕ) → Stopped at widths n v → StackRefusal n v
       samples_wrong : widths ≤ 16 → heights ≡ widths → (l : List Image) (end : ℕ) → Run file at l end → length l ≡ widths
           → (samples ≡ length (joined_samples file l) → ⊥) → StackRefusal 2 []
 
@@ -169,15 +169,15 @@ module _ (file : List ℕ) where
       fit q =
           let v = next_from file at widths in frames_skip v widths _ h (frames_skip v heights _ (omega arith) (length_skip v heights widths _ e q))
 
-      pub images-refused : {n : ℕ} {v : List ℕ} → answer (images_checks file at widths) (next_from file at widths) ≡ refused n v
+      pub images_refused : {n : ℕ} {v : List ℕ} → answer (images_checks file at widths) (next_from file at widths) ≡ refused n v
           → read_stack file at widths heights samples ≡ refused n v
       unfolding answered
-      images-refused p = sym (fit (stop_all _ (images_checks file at widths) last p))
+      images_refused p = sym (fit (stop_all _ (images_checks file at widths) last p))
 
-      pub images-passed : answer (images_checks file at widths) (next_from file at widths) ≡ accepted (next_from file at widths)
+      pub images_passed : answer (images_checks file at widths) (next_from file at widths) ≡ accepted (next_from file at widths)
           → answer last (next_from file at widths) ≡ read_stack file at widths heights samples
       unfolding answered
-      images-passed p = fit (sym (pass_all _ (images_checks file at widths) last p))
+      images_passed p = fit (sym (pass_all _ (images_checks file at widths) last p))
 
     run_passed : (l : List Image) (end : ℕ) → Run file at l end → length l ≡ widths
         → answer (images_checks file at widths) (next_from file at widths) ≡ accepted (next_from file at widths)
@@ -195,24 +195,24 @@ module _ (file : List ℕ) where
     stacked_laid : (end : ℕ) → widths ≤ 16 → heights ≡ widths → Stacked at widths end samples → read_stack file at widths heights samples ≡ accepted end
     stacked_laid end h e s =
         sym
-        (images-passed h e (run_passed s.images end s.run s.number))
+        (images_passed h e (run_passed s.images end s.run s.number))
         ∙ sym (length_skip (next_from file at widths) samples total [] (s.counted ∙ sym (total_of s.images end s.run s.number)) (done (next_from file at widths)))
         ∙ ap accepted (ap (next_from file at) (sym s.number) ∙ run_next at s.images end s.run)
 
     refuses : (n : ℕ) (v : List ℕ) → StackRefusal n v → read_stack file at widths heights samples ≡ refused n v
     unfolding read_stack read_stack_checks
-    refuses n v (frames-over o) = ⊎_elim
+    refuses n v (frames_over_lem o) = ⊎_elim
         (λ (w : 16 < widths). sym (frames_stop _ widths _ w))
         (λ (h : 16 < heights). ⊎_elim
         (λ (w : 16 < widths). sym (frames_stop _ widths _ w))
         (λ (w : widths ≤ 16). sym (frames_skip _ widths _ w (frames_stop _ heights _ h)))
         (lt_or_le 16 widths))
         o
-    refuses n v (lists-unequal w h u) = sym (frames_skip _ widths _ w (frames_skip _ heights _ h (length_stop _ heights widths _ u)))
-    refuses n v (past_end w e k) = images-refused w e (past_refused _ at widths k)
-    refuses n v (image-refused w e m u s) = images-refused w e (run_refused _ at s.images s.here s.run s.refusal widths s.fewer)
+    refuses n v (lists_unequal w h u) = sym (frames_skip _ widths _ w (frames_skip _ heights _ h (length_stop _ heights widths _ u)))
+    refuses n v (past_end w e k) = images_refused w e (past_refused _ at widths k)
+    refuses n v (image_refused w e m u s) = images_refused w e (run_refused _ at s.images s.here s.run s.refusal widths s.fewer)
     refuses n v (samples_wrong w e l end r q u) =
-        sym (images-passed w e (run_passed l end r q))
+        sym (images_passed w e (run_passed l end r q))
         ∙ sym (length_stop (next_from file at widths) samples total [] (λ p. u (p ∙ total_of l end r q)))
 
     -- and back: one of these it is
@@ -227,7 +227,7 @@ module _ (file : List ℕ) where
         (lt_or_le (length file) at)
       where
         on : (r : Answer ℕ) → at ≤ length file → answer (images_checks file at widths) (next_from file at widths) ≡ r → Means (read_stack file at widths heights samples)
-        on (refused n v) k q = let p = image-refused h e n v (stopped _ at widths k q) in subst Means (sym (refuses n v p)) p
+        on (refused n v) k q = let p = image_refused h e n v (stopped _ at widths k q) in subst Means (sym (refuses n v p)) p
         on (accepted b) k q =
             let run = passes_run _ at widths q in
             let long = images_long at widths in
@@ -239,12 +239,12 @@ module _ (file : List ℕ) where
 
     means : Means (read_stack file at widths heights samples)
     means = ⊎_elim
-        (λ (w : 16 < widths). let p = frames-over (inl w) in subst Means (sym (refuses 6 [] p)) p)
+        (λ (w : 16 < widths). let p = frames_over_lem (inl w) in subst Means (sym (refuses 6 [] p)) p)
         (λ (w : widths ≤ 16). ⊎_elim
-        (λ (h : 16 < heights). let p = frames-over (inr h) in subst Means (sym (refuses 6 [] p)) p)
+        (λ (h : 16 < heights). let p = frames_over_lem (inr h) in subst Means (sym (refuses 6 [] p)) p)
         (λ (h : heights ≤ 16). ⊎_elim
         (λ (e : heights ≡ widths). fit_means w e)
-        (λ (e : heights ≡ widths → ⊥). let p = lists-unequal w h e in subst Means (sym (refuses 2 [] p)) p)
+        (λ (e : heights ≡ widths → ⊥). let p = lists_unequal w h e in subst Means (sym (refuses 2 [] p)) p)
         (eq_or_ne heights widths))
         (lt_or_le 16 heights))
         (lt_or_le 16 widths)

@@ -1,4 +1,4 @@
--- The checks of a header that is well formed, by the facts that decide them: `..-stop` refuses, `all_pass` accepts.
+-- The checks of a header that is well formed, by the facts that decide them: `.._stop` refuses, `all_pass` accepts.
 use Rattle.std.specs.Prelude.{◌≡◌, ℕ, ◌*◌, ◌≤◌, ◌<◌, max}
 use Rattle.std.proofs.Common.{ap, lt-ltb, le-ltb, eq-eqb, ne_eqb}
 use Rattle.std.proofs.Math.Bool.{not}
@@ -28,9 +28,9 @@ module _ {A : Type 0} (a : A) (s : Sizes) (left : ℕ) where
       unfolding other_highest
       past q = inside (skip a (other_highest s.highest) (samples_short left (s.width * s.height) ∷ []) (ap not (eq-eqb s.highest 255 e)) q)
 
-      pub short-stop : left < s.width * s.height → refused 15 [] ≡ answer (sizes_checks s left) a
+      pub short_stop : left < s.width * s.height → refused 15 [] ≡ answer (sizes_checks s left) a
       unfolding samples_short
-      short-stop l = past (stop a (samples_short left (s.width * s.height)) [] (lt-ltb left (s.width * s.height) l))
+      short_stop l = past (stop a (samples_short left (s.width * s.height)) [] (lt-ltb left (s.width * s.height) l))
 
       pub all_pass : s.width * s.height ≤ left → accepted a ≡ answer (sizes_checks s left) a
       unfolding samples_short

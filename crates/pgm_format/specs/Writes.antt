@@ -10,7 +10,7 @@ use Rattle.laws.specs.checks.Checks.{stop, skip, done, longest_stop, longest_ski
 use Rattle.laws.specs.general.Cases.{lt_or_le, eq_or_ne}
 use Rattle.pgm_format.specs.Pgm.{Frame, Within, pgm, room_short, write_checks, write}
 
--- ---- the checks by the facts that decide them: `..-stop` refuses, `all_pass` accepts
+-- ---- the checks by the facts that decide them: `.._stop` refuses, `all_pass` accepts
 
 module _ {A : Type 0} (a : A) (f : Frame) (room : ℕ) where
   pub over_stop : 8192 < max f.width f.height → refused 1 [] ≡ answer (write_checks f room) a
@@ -27,9 +27,9 @@ module _ {A : Type 0} (a : A) (f : Frame) (room : ℕ) where
     count_stop u = inside (length_stop a (length f.samples) (f.width * f.height) _ u)
 
     module _ (e : length f.samples ≡ f.width * f.height) where
-      pub room-stop : room < length (pgm f) → refused 2 [] ≡ answer (write_checks f room) a
+      pub room_stop : room < length (pgm f) → refused 2 [] ≡ answer (write_checks f room) a
       unfolding room_short
-      room-stop h = inside (length_skip a (length f.samples) (f.width * f.height) _ e (stop a (room_short room (length (pgm f))) [] (lt-ltb room (length (pgm f)) h)))
+      room_stop h = inside (length_skip a (length f.samples) (f.width * f.height) _ e (stop a (room_short room (length (pgm f))) [] (lt-ltb room (length (pgm f)) h)))
 
       pub all_pass : length (pgm f) ≤ room → accepted a ≡ answer (write_checks f room) a
       unfolding room_short
@@ -69,7 +69,7 @@ module _ (f : Frame) (room : ℕ) where
   wrong_refused p = ⊎_elim
       (λ (u : length f.samples ≡ f.width * f.height → ⊥). sym (count_stop _ f room (omega (arith, p.0, p.1)) u))
       (λ (h : room < length (pgm f)). ⊎_elim
-      (λ (e : length f.samples ≡ f.width * f.height). sym (room-stop _ f room (omega (arith, p.0, p.1)) e h))
+      (λ (e : length f.samples ≡ f.width * f.height). sym (room_stop _ f room (omega (arith, p.0, p.1)) e h))
       (λ (u : length f.samples ≡ f.width * f.height → ⊥). sym (count_stop _ f room (omega (arith, p.0, p.1)) u))
       (eq_or_ne (length f.samples) (f.width * f.height)))
       p.2

@@ -6,13 +6,16 @@ use std::io;
 use std::io::Read;
 
 // One byte more than eight frames have.
-const INPUT: u64 = 32769;
+const INPUT: usize = 32769;
 
 fn main(rt: HostRuntime) -> io::Result<()> {
-    let mut input = Vec::new(rt.alloc());
-    rt.reader().take(INPUT).read_to_end(&mut input)?;
+    let mut input = [0u8; INPUT];
+    let n = io::copy(
+        &mut rt.reader().take(INPUT as u64),
+        &mut input.as_mut_slice(),
+    )?;
     let mut text = [0u8; 8192];
-    let end = steps::put_text(input.as_slice(), &mut text);
+    let end = steps::put_text(&input[..n.min(INPUT as u64) as usize], &mut text);
     if rt.write_all(&text[0..end]).is_err() {
         eprintln!(rt; "stacksteps: the output is not complete")?;
     }

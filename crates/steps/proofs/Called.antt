@@ -19,7 +19,7 @@ use Rattle.definitions.specs.Refusals.{Check, Answer, answer, after, accepted, r
 use Rattle.definitions.specs.Refusals.{frames_checks, stack_scratch_checks, survey_checks, report_checks}
 use Rattle.definitions.specs.Report.{Terms, rivals, Record, records, records_needed, verdict, verdicts, report_crop, records_bytes}
 use Rattle.laws.specs.general.Cases.{lt_or_le}
-use Rattle.laws.specs.checks.Checks.{not_both, same_value, same_number, accepted_too, refused_too, after-accepted, after-refused, accepted_for_space}
+use Rattle.laws.specs.checks.Checks.{not_both, same_value, same_number, accepted_too, refused_too, after_accepted, after_refused, accepted_for_space}
 use Rattle.laws.specs.checks.ChecksReport.{refused_before}
 use Rattle.laws.specs.general.Lists.{build_at, joined_same}
 use Rattle.laws.specs.report.ReadBack.{record_near, record_few}
@@ -213,16 +213,16 @@ module _ {n : ℕ} {input widths heights percentiles : List ℕ} {bits shift_lis
     all_accepted a = accepted_for_space a before (records_needed stack q) 140 (accepted_too (tt {0}) a before passes) (omega (arith, few_needed))
 
     written : {A : Type 0} (new old : A) → after checks new old ≡ new
-    written new old = after-accepted (tt {0}) checks new old (all_accepted tt)
+    written new old = after_accepted (tt {0}) checks new old (all_accepted tt)
 
     -- and leave their text
     module _ {crop : Rect} {count : ℕ} {placed : List ℤ} {judged space : List ℕ} (placed₀ : List ℤ) (judged₀ space₀ : List ℕ)
         (c : crop ≡ report_crop stack) (r : count ≡ records_needed stack q)
         (s : placed ≡ after checks (listed (shifts stack)) placed₀) (v : judged ≡ after checks (verdicts stack q) judged₀)
         (b : space ≡ after checks (records_bytes (records stack q) ++ drop (20 * records_needed stack q) space₀) space₀) where
-      pub summary-text : heading (length widths) crop ++ joined (length widths) (frame_text_in placed judged space count) ≡ text input
+      pub summary_text : heading (length widths) crop ++ joined (length widths) (frame_text_in placed judged space count) ≡ text input
       unfolding stack_of
-      summary-text =
+      summary_text =
           let rest = drop (20 * records_needed stack q) space₀ in
           let t = call.terms in
           (λ i. heading (length widths) (c i) ++ joined (length widths) (frame_text_in ((s ∙ written _ _) i) ((v ∙ written _ _) i) ((b ∙ written _ _) i) (r i)))
@@ -257,7 +257,7 @@ module _ {n : ℕ} {input widths heights percentiles : List ℕ} {bits shift_lis
       (λ (l : 0 < n). written l new old ∙ sym (ap (λ (t : Bool). cond t old new) (ne_eqb n 0 (λ z. omega arith))))
       (λ (l : n ≤ 0).
       let z : n ≡ 0 = omega arith in
-      after-refused (tt {0}) checks new old (none_refused z tt) ∙ sym (ap (λ (t : Bool). cond t old new) (eq-eqb n 0 z)))
+      after_refused (tt {0}) checks new old (none_refused z tt) ∙ sym (ap (λ (t : Bool). cond t old new) (eq-eqb n 0 z)))
       (lt_or_le 0 n)
 
   pub input_stack_lem : stack ≡ input_stack input

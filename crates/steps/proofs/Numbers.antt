@@ -1,26 +1,34 @@
 -- Numbers in decimal digits, and whole numbers by their sign and size.
-use mathlib.Core.Path.{◌≡◌, refl, sym, ap, ◌∙◌}
+use mathlib.Core.Path.{◌≡◌, refl, sym, ap, ap₂, ◌∙◌}
 use mathlib.Core.Bool.{Bool, true, false, cond}
 use mathlib.Core.List.{List, [], ◌∷◌, ◌++◌}
-use Prim.Native.Nat.{ℕ, suc, ◌+◌, ◌-◌, ◌%◌, ◌^◌, ◌≤◌, ◌<◌}
+use Prim.Native.Nat.{ℕ, zero, suc, ◌+◌, ◌-◌, ◌/◌, ◌%◌, ◌≤◌, ◌<◌}
+use native.Mathlib.Numerals.{unary_clauses}
 use native.Mathlib.Omega.{arith}
 use borrow.Author.Tests.{lt-ltb, le-ltb}
 use lib.IntN.{ℤ, pos, negsuc, nat_abs}
 use lib.Signed.{lt_z}
-use Rattle.std.specs.Fmt as fmt
-use Rattle.std.proofs.lemmas.Fmt.{decimal_by_steps}
+use Rattle.io.specs.Digits.{hex_digit_ascii, last_digits, IsDigitCount}
 use Rattle.definitions.specs.Decimal.{decimal}
 use Rattle.definitions.specs.Geometry.{behind}
+use Rattle.laws.specs.general.Cases.{cond_true}
 use Rattle.laws.specs.general.Decimals.{decimal_one, decimal_more}
 use Rattle.laws.specs.general.Whole.{alone, lt_true, lt_false}
 use Rattle.steps.specs.Text.{ascii, integer}
 use Rattle.definitions.specs.Report.{signed_of}
 
--- what itoa prints of a number is the number in decimal
-pub printed : (n : ℕ) → n < 2 ^ 64 → fmt.decimal n ≡ decimal n
-printed = decimal_by_steps (λ (n : ℕ) (d : List ℕ). d ≡ decimal n)
-    (λ n h. sym (decimal_one n h))
-    (λ n d h e. ap (λ (l : List ℕ). l ++ ((48 + n % 10) ∷ [])) e ∙ sym (decimal_more n h))
+-- the last digit, as io has it
+last : (n : ℕ) → hex_digit_ascii (n % 10) ≡ 48 + n % 10
+last n = cond_true _ _ (lt-ltb (n % 10) 10 (omega arith))
+
+-- the fewest digits that hold a number are the number in decimal
+pub decimal_digits : (n k : ℕ) → IsDigitCount 10 1 n k → last_digits 10 k n ≡ decimal n
+decimal_digits n zero f = absurd (omega arith)
+decimal_digits n (suc zero) f = ap (λ (c : ℕ). c ∷ []) (last n ∙ omega arith) ∙ sym (decimal_one n (omega arith))
+decimal_digits n (suc (suc k)) f =
+    let low = simp unary_clauses at (f.2 (omega arith)) in
+    ap₂ (λ (d : List ℕ) (c : ℕ). d ++ (c ∷ [])) (decimal_digits (n / 10) (suc k) (omega arith, omega arith, (λ m. simp unary_clauses (omega arith)))) (last n)
+    ∙ sym (decimal_more n (omega arith))
 
 -- a whole number by its sign and size
 pub integer_below : (z : ℤ) → 0 < behind z → ascii "-" ++ decimal (nat_abs z) ≡ integer z

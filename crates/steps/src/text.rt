@@ -4,8 +4,6 @@ ghost use Rattle.definitions.specs.Decimal.{decimal};
 ghost use Rattle.steps.specs.Text.{ascii, integer};
 ghost use Rattle.steps.specs.Inner.{Put};
 
-use itoa::Buffer;
-
 // The answer of each function that puts text is where the next byte goes.
 pub(crate) fn put_byte(out: &mut [u8], at: usize, byte: u8) -> usize
     requires { at ≤ length out.old }
@@ -35,8 +33,9 @@ pub(crate) fn put_number(out: &mut [u8], at: usize, value: u64) -> usize
     requires { at ≤ length out.old }
     ensures { Put out.old at (decimal value) out.new result }
 {
-    let mut digits = Buffer::new();
-    put_bytes(out, at, digits.format(value).as_bytes())
+    let mut digits = [0u8; 20];
+    let n = io::decimal(value, &mut digits);
+    put_bytes(out, at, &digits[..n])
 }
 
 // A blank, then the number.

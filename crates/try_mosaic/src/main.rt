@@ -17,6 +17,9 @@ const HEIGHT: usize = 63;
 
 const SAMPLES: usize = WIDTH * HEIGHT;
 
+// Two mosaics, and the planes of both.
+const INPUT: usize = 4 * SAMPLES;
+
 // How far a plane of the second mosaic has to move to sit on that of the first.
 const STEP_X: i32 = 3;
 
@@ -269,7 +272,7 @@ fn taken_apart(mosaic: &[u8], planes: &mut [u8]) -> bool {
 }
 
 fn run(rt: &impl Print, input: &[u8]) -> io::Result<()> {
-    if input.len() != 4 * SAMPLES {
+    if input.len() != INPUT {
         return println!(rt; "the input is not two mosaics and their planes");
     }
     let first = &input[0..SAMPLES];
@@ -291,9 +294,10 @@ fn run(rt: &impl Print, input: &[u8]) -> io::Result<()> {
 }
 
 fn main(rt: HostRuntime) -> io::Result<()> {
-    let mut input = Vec::new(rt.alloc());
-    rt.reader()
-        .take(4 * SAMPLES as u64)
-        .read_to_end(&mut input)?;
-    run(&rt, input.as_slice())
+    let mut input = [0u8; INPUT];
+    let n = io::copy(
+        &mut rt.reader().take(INPUT as u64),
+        &mut input.as_mut_slice(),
+    )?;
+    run(&rt, &input[..n.min(INPUT as u64) as usize])
 }

@@ -252,7 +252,10 @@ fn run(rt: &impl Print, input: &[u8]) -> io::Result<()> {
 }
 
 fn main(rt: HostRuntime) -> io::Result<()> {
-    let mut input = Vec::new(rt.alloc());
-    rt.reader().take(INPUT as u64).read_to_end(&mut input)?;
-    run(&rt, input.as_slice())
+    let mut input = [0u8; INPUT];
+    let n = io::copy(
+        &mut rt.reader().take(INPUT as u64),
+        &mut input.as_mut_slice(),
+    )?;
+    run(&rt, &input[..n.min(INPUT as u64) as usize])
 }

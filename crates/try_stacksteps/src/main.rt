@@ -4,7 +4,7 @@
 
 use replay::{MARK, at, conclude, marked_bytes, read_line};
 use std::io;
-use std::io::Read;
+use std::io::{Input, Read};
 
 // The longest that is read, an input, and a text.
 const CASES: usize = 524288;
@@ -68,8 +68,16 @@ fn run(rt: &impl Print, text: &[u8]) -> io::Result<()> {
     Ok(())
 }
 
+// Runs on what standard input has, as far as there is room for it.
+fn run_from(rt: &(impl Input + Print), room: &mut [u8; CASES]) -> io::Result<()> {
+    let n = io::copy(
+        &mut rt.reader().take(room.len() as u64),
+        &mut room.as_mut_slice(),
+    )?;
+    run(rt, &room[..n.min(room.len() as u64) as usize])
+}
+
 fn main(rt: HostRuntime) -> io::Result<()> {
-    let mut text = Vec::new(rt.alloc());
-    rt.reader().take(CASES as u64).read_to_end(&mut text)?;
-    run(&rt, text.as_slice())
+    let mut text = [0u8; CASES];
+    run_from(&rt, &mut text)
 }

@@ -16,10 +16,10 @@ mod threshold;
 
 use replay::{MARK, MARK_WORD, at, bytes, conclude, part, read_line, rest, sizes, words};
 use std::io;
-use std::io::Read;
+use std::io::{Input, Read};
 
 // The longest that is read.
-const TEXT: u64 = 3145728;
+const TEXT: usize = 3145728;
 
 // The most numbers of a line.
 const NUMBERS: usize = 20480;
@@ -168,8 +168,16 @@ fn replayed(rt: &impl Print, text: &[u8]) -> io::Result<()> {
     Ok(())
 }
 
+// Replays what standard input has, as far as there is room for it.
+fn replayed_from(rt: &(impl Input + Print), room: &mut [u8; TEXT]) -> io::Result<()> {
+    let n = io::copy(
+        &mut rt.reader().take(room.len() as u64),
+        &mut room.as_mut_slice(),
+    )?;
+    replayed(rt, &room[..n.min(room.len() as u64) as usize])
+}
+
 fn main(rt: HostRuntime) -> io::Result<()> {
-    let mut text = Vec::new(rt.alloc());
-    rt.reader().take(TEXT).read_to_end(&mut text)?;
-    replayed(&rt, text.as_slice())
+    let mut text = [0u8; TEXT];
+    replayed_from(&rt, &mut text)
 }

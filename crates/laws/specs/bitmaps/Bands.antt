@@ -112,14 +112,16 @@ module _ (w : ℕ) (rt re st se : List ℕ) (s : Shift) (rows : ℕ) where
       → at_sources w rows aside x y (disagreeing_bit band_reference band_target x y) ≡ at_sources w h s x (up + y) (disagreeing_bit (bitmaps_in w rt re) (bitmaps_in w st se) x (up + y))
   unfolding at_sources
   same_pixel h x y l p q =
-      ap (λ (o : Source). value_at_source (source x s.x w) (λ (u : ℕ). value_at_source o (λ (v : ℕ). disagreeing_bit band_reference band_target x y u v))) (source_inside y (pos 0) rows y (omega arith) q)
+      ap (λ (o : Source). value_at_source (source x s.x w) (λ (u : ℕ). value_at_source o (λ (v : ℕ). disagreeing_bit band_reference band_target x y u v)))
+      (source_inside y (pos 0) rows y (omega arith) q)
       ∙ on (source x s.x w) refl
       ∙ sym
       (ap (λ (o : Source). value_at_source (source x s.x w) (λ (u : ℕ). value_at_source o (λ (v : ℕ). disagreeing_bit (bitmaps_in w rt re) (bitmaps_in w st se) x (up + y) u v)))
       (source_inside (up + y) s.y h (down + y) (omega arith) (omega arith)))
     where
       on : (o : Source) → source x s.x w ≡ o
-          → value_at_source o (λ (u : ℕ). disagreeing_bit band_reference band_target x y u y) ≡ value_at_source o (λ (u : ℕ). disagreeing_bit (bitmaps_in w rt re) (bitmaps_in w st se) x (up + y) u (down + y))
+          → value_at_source o (λ (u : ℕ). disagreeing_bit band_reference band_target x y u y)
+          ≡ value_at_source o (λ (u : ℕ). disagreeing_bit (bitmaps_in w rt re) (bitmaps_in w st se) x (up + y) u (down + y))
       on (inside u) e = same_bit x y u p q (inside_lt x s.x w u e)
       on outside e = refl
 

@@ -1,7 +1,8 @@
 -- Packed bitmaps: how many words a row has, the bits of a word by column, one bit of a word changed, the padding, and the set
 -- bits of all words, which are the set pixels where the padding is clear.
 use Rattle.std.specs.Prelude.{◌≡◌, refl, Bool, cond, List, ℕ, zero, suc, ◌+◌, ◌-◌, ◌*◌, ◌/◌, ◌%◌, ◌^◌, ◌≤◌, ◌<◌, max, eqb, ltb, length, get_or, drop}
-use Rattle.std.proofs.Common.{sym, ap, ap₂, subst, ◌∙◌, ⊎_elim, le_trans, lt_of_le_of_lt, div-le_self, mul-le-mul_left, mul-le-mul_right, mod-lt, mod-eq_of_lt, arith, eq-eqb, ne_eqb, lt-ltb, le-ltb, length-take, length-drop, pow_pos, get_or-take, get_or-drop}
+use Rattle.std.proofs.Common.{sym, ap, ap₂, subst, ◌∙◌, ⊎_elim, le_trans, lt_of_le_of_lt, div-le_self, mul-le-mul_left, mul-le-mul_right, mod-lt}
+use Rattle.std.proofs.Common.{mod-eq_of_lt, arith, eq-eqb, ne_eqb, lt-ltb, le-ltb, length-take, length-drop, pow_pos, get_or-take, get_or-drop}
 use Rattle.std.specs.Int.Bits.{bit_and, bit_or, bit_xor, differ}
 use Rattle.std.proofs.lemmas.Nat.{and_mask, or_lt, xor_lt}
 use Rattle.std.proofs.Math.ListN.{get_or-eq_default}

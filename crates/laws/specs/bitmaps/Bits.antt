@@ -1,5 +1,5 @@
 -- Bit i of a number, and the bits of what the word operations give. In the logic, on u64, `a & b`, `a | b`, `a ^ b` are
--- `bit_and a b`, `bit_or a b`, `bit_xor a b` of `lib.Bits`, `a >> k` is `a / 2 ^ k` and `a << k` is `(a * 2 ^ k) % 2 ^ 64`, k < 64.
+-- `bit_and a b`, `bit_or a b`, `bit_xor a b` of `Rattle.std.specs.Int.Bits`, `a >> k` is `a / 2 ^ k` and `a << k` is `(a * 2 ^ k) % 2 ^ 64`, k < 64.
 use Rattle.std.specs.Prelude.{◌≡◌, ℕ, zero, suc, ◌+◌, ◌-◌, ◌*◌, ◌/◌, ◌%◌, ◌^◌, ◌≤◌, ◌<◌, min, max}
 use Rattle.std.proofs.Common.{sym, ap, ap₂, ◌∙◌, mod-lt, div-one, zero-lt-suc, mul_assoc, lt_of_lt_of_le, le_refl, one-add, arith, pow-add, pow_mono, shr-shr, ⊎_elim}
 use Rattle.std.proofs.Math.Nat.{div-eq_of_lt, sub_self}

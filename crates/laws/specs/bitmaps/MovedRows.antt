@@ -154,7 +154,8 @@ module _ (rt re st se : List ℕ) (n rows i j m q s : ℕ) (g : Joint) (is : IsJ
   unfolding moved_rows lines_sum run_sum pair_at moved_row
   rows_right a e z l p =
       let c = n - m in
-      sum_ext rows (λ (r : ℕ). sum n (in_row r)) (λ (r : ℕ). run_sum (spanned s) rt re st se (i + m + r * n) (j + q + r * n) 1 c g + pair_at (edged 0 (64 - s)) rt re st se (i + a + r * n) (j + r * n) g)
+      sum_ext rows (λ (r : ℕ). sum n (in_row r))
+      (λ (r : ℕ). run_sum (spanned s) rt re st se (i + m + r * n) (j + q + r * n) 1 c g + pair_at (edged 0 (64 - s)) rt re st se (i + a + r * n) (j + r * n) g)
       (λ r _.
       let x : i + r * n + a ≡ i + a + r * n = omega arith in
       sum_before a m c n (in_row r) e (omega arith) (λ k h. blank_before r k (omega arith)) (λ k h t. blank_past r k (omega arith))

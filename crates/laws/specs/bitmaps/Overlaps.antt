@@ -65,7 +65,8 @@ module _ (w h : ℕ) (d : Shift) (f : ℕ → ℕ → ℕ → ℕ → ℕ) where
 
 -- ---- a row by its words
 
-module _ (rt re st se : List ℕ) (w h : ℕ) (pre : IsBitmap re w h) (pse : IsBitmap se w h) (ft : (v : ℕ) → get_or st v 0 < 2 ^ 64) (fe : (v : ℕ) → get_or se v 0 < 2 ^ 64) (g : Joint) (is : IsJoint g) where
+module _ (rt re st se : List ℕ) (w h : ℕ) (pre : IsBitmap re w h) (pse : IsBitmap se w h)
+    (ft : (v : ℕ) → get_or st v 0 < 2 ^ 64) (fe : (v : ℕ) → get_or se v 0 < 2 ^ 64) (g : Joint) (is : IsJoint g) where
   -- of pixel (x, y) and its source (u, v)
   abbrev pixel : ℕ → ℕ → ℕ → ℕ → ℕ
   pixel x y u v = g (bit_at rt w x y) (bit_at re w x y) (bit_at st w u v) (bit_at se w u v)

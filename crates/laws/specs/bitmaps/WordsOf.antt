@@ -1,6 +1,6 @@
 -- A number made from its bits: one bit more, the same bits, none set, below a power of two, in two parts, and cut off where all
 -- are clear; and its bits read back, one by one and all together.
-use Rattle.std.specs.Prelude.{◌≡◌, refl, ◌⊎◌, ℕ, zero, suc, ◌+◌, ◌-◌, ◌*◌, ◌%◌, ◌^◌, ◌≤◌, ◌<◌}
+use Rattle.std.specs.Prelude.{◌≡◌, refl, ℕ, zero, suc, ◌+◌, ◌-◌, ◌*◌, ◌%◌, ◌^◌, ◌≤◌, ◌<◌}
 use Rattle.std.proofs.Common.{sym, ap, ap₂, ◌∙◌, ⊎_elim, mod-eq_of_lt, eq-or-lt_of_le, le_of_suc-le-suc, add-mul, mul_assoc, mul_comm, add-zero, add-suc, zero-mul, add-one, one-add, arith, pow-add}
 use Rattle.std.proofs.Math.Nat.{mod-one}
 use Rattle.std.proofs.Math.Arith.{digits_lt}

@@ -9,7 +9,8 @@ use mathlib.Core.List.{List, [], ◌∷◌, ◌++◌, map, append-nil, Memᴰ}
 use Rattle.std.proofs.Math.Dec.{ltb}
 use Rattle.std.proofs.lemmas.Bool.{lt-leb}
 use Rattle.definitions.specs.Bitmap.{padding_set}
-use Rattle.definitions.specs.Refusals.{Check, Answer, accepted, refused, answer, after, side_over, either_over, wrong_length, percentile_over, scratch_short, padded, space_short, pixel_outside, report_checks}
+use Rattle.definitions.specs.Refusals.{Check, Answer, accepted, refused, answer, after, side_over, either_over, wrong_length, percentile_over}
+use Rattle.definitions.specs.Refusals.{scratch_short, padded, space_short, pixel_outside, report_checks}
 use Rattle.laws.specs.general.Cases.{lt_or_le, clash}
 
 -- an answer is not both
@@ -123,14 +124,14 @@ module _ {A : Type 0} (a : A) where
   unfolding after
   held_at l new old = ap (λ (k : List Check). after k new old) (sym (append-nil l)) ∙ held_after l [] new old
 
-  pub after-pass {ℓ} : {B : Type ℓ} (l m : List Check) (new old : B) {d : A} → answer l a ≡ accepted d → after (l ++ m) new old ≡ after m new old
-  after-pass l m new old e = held_after l m new old ∙ ap (λ (r : Answer A). held r (after m new old) old) e
+  pub after_pass {ℓ} : {B : Type ℓ} (l m : List Check) (new old : B) {d : A} → answer l a ≡ accepted d → after (l ++ m) new old ≡ after m new old
+  after_pass l m new old e = held_after l m new old ∙ ap (λ (r : Answer A). held r (after m new old) old) e
 
-  pub after-accepted {ℓ} : {B : Type ℓ} (l : List Check) (new old : B) {d : A} → answer l a ≡ accepted d → after l new old ≡ new
-  after-accepted l new old e = held_at l new old ∙ ap (λ (r : Answer A). held r new old) e
+  pub after_accepted {ℓ} : {B : Type ℓ} (l : List Check) (new old : B) {d : A} → answer l a ≡ accepted d → after l new old ≡ new
+  after_accepted l new old e = held_at l new old ∙ ap (λ (r : Answer A). held r new old) e
 
-  pub after-refused {ℓ} : {B : Type ℓ} (l : List Check) (new old : B) {n : ℕ} {v : List ℕ} → answer l a ≡ refused n v → after l new old ≡ old
-  after-refused l new old e = held_at l new old ∙ ap (λ (r : Answer A). held r new old) e
+  pub after_refused {ℓ} : {B : Type ℓ} (l : List Check) (new old : B) {n : ℕ} {v : List ℕ} → answer l a ≡ refused n v → after l new old ≡ old
+  after_refused l new old e = held_at l new old ∙ ap (λ (r : Answer A). held r new old) e
 
 -- ---- a loop over the checks f k of a list: those from the i-th on answer as all of them do
 
@@ -305,23 +306,23 @@ module _ {B : Type 0} (l : List Check) (new old : B) where
   after_holds P p q = on (answer l (tt {0})) refl
     where
       on : (r : Answer (Unit {0})) → answer l (tt {0}) ≡ r → P (after l new old)
-      on (accepted u) e = subst P (sym (after-accepted (tt {0}) l new old e)) (p (sym (accepted_too (tt {0}) (tt {0}) l e)))
-      on (refused n v) e = subst P (sym (after-refused (tt {0}) l new old e)) q
+      on (accepted u) e = subst P (sym (after_accepted (tt {0}) l new old e)) (p (sym (accepted_too (tt {0}) (tt {0}) l e)))
+      on (refused n v) e = subst P (sym (after_refused (tt {0}) l new old e)) q
 
   pub after_by : {C : Type 0} (f : B → C) {new' old' : C} → (accepted (tt {0}) ≡ answer l tt → new' ≡ f new) → old' ≡ f old → after l new' old' ≡ f (after l new old)
   after_by f {new'} {old'} p q = on (answer l (tt {0})) refl
     where
       on : (r : Answer (Unit {0})) → answer l (tt {0}) ≡ r → after l new' old' ≡ f (after l new old)
       on (accepted u) e =
-          after-accepted (tt {0}) l new' old' e ∙ p (sym (accepted_too (tt {0}) (tt {0}) l e)) ∙ sym (ap f (after-accepted (tt {0}) l new old e))
-      on (refused n v) e = after-refused (tt {0}) l new' old' e ∙ q ∙ sym (ap f (after-refused (tt {0}) l new old e))
+          after_accepted (tt {0}) l new' old' e ∙ p (sym (accepted_too (tt {0}) (tt {0}) l e)) ∙ sym (ap f (after_accepted (tt {0}) l new old e))
+      on (refused n v) e = after_refused (tt {0}) l new' old' e ∙ q ∙ sym (ap f (after_refused (tt {0}) l new old e))
 
 -- what a call that writes one buffer shows on its two paths
 pub refuses : {B : Type 0} (l : List Check) (new old : B) {n : ℕ} {v : List ℕ} → refused n v ≡ answer l (tt {0}) → (refused n v ≡ answer l (tt {0})) × (old ≡ after l new old)
-refuses l new old e = (e, sym (after-refused (tt {0}) l new old (sym e)))
+refuses l new old e = (e, sym (after_refused (tt {0}) l new old (sym e)))
 
 pub accepts : {B : Type 0} (l : List Check) (new old : B) {x : B} → accepted (tt {0}) ≡ answer l tt → x ≡ new → (accepted (tt {0}) ≡ answer l tt) × (x ≡ after l new old)
-accepts l new old e p = (e, p ∙ sym (after-accepted (tt {0}) l new old (sym e)))
+accepts l new old e p = (e, p ∙ sym (after_accepted (tt {0}) l new old (sym e)))
 
 -- and one that writes two
 pub refuses_two : {B C : Type 0} (l : List Check) (new old : B) (new' old' : C) {n : ℕ} {v : List ℕ} → refused n v ≡ answer l (tt {0})

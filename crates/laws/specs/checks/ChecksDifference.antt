@@ -131,14 +131,14 @@ module _ {A : Type 0} (a : A) (w h w' h' : ℕ) (t e t' e' : List ℕ) where
     fourth_long l₁ l₂ l₃ n = past_sizes (right _ t l₁ (right _ e l₂ (right _ t' l₃ (wrong _ e' n))))
 
     module _ (l : Long t e t' e' words) where
-      past-lengths : {r : Answer A} → r ≡ answer (all_padded t e t' e' w h) a → Answers r
-      past-lengths o = past_sizes (right _ t l.first (right _ e l.second (right _ t' l.third (right _ e' l.fourth o))))
+      past_lengths : {r : Answer A} → r ≡ answer (all_padded t e t' e' w h) a → Answers r
+      past_lengths o = past_sizes (right _ t l.first (right _ e l.second (right _ t' l.third (right _ e' l.fourth o))))
 
-      pub some-padded : 0 < padding_of t e t' e' w h → Answers (refused 8 [])
-      some-padded k = past-lengths (paddings_stop a t e t' e' w h k)
+      pub some_padded : 0 < padding_of t e t' e' w h → Answers (refused 8 [])
+      some_padded k = past_lengths (paddings_stop a t e t' e' w h k)
 
       pub all_right : padding_of t e t' e' w h ≤ 0 → {b : A} → b ≡ a → Answers (accepted b)
-      all_right k o = ap accepted o ∙ past-lengths (paddings_skip a t e t' e' w h k)
+      all_right k o = ap accepted o ∙ past_lengths (paddings_skip a t e t' e' w h k)
 
 -- what is then known of the bitmaps
 pub bitmaps : (t e t' e' : List ℕ) (w h w' h' : ℕ) {words : ℕ} → Sized w h w' h' words → Long t e t' e' words → padding_of t e t' e' w h ≤ 0

@@ -9,7 +9,7 @@ use Rattle.definitions.specs.Align.{Options, Stack, walk, stack_of, step_bytes, 
 use Rattle.definitions.specs.Refusals.{Check, Answer, accepted, refused, answer, after, frames_checks, stack_scratch_checks, stack_checks, survey_checks, report_checks}
 use Rattle.definitions.specs.Refusals.{side_over, wrong_length, percentile_over, no_reference, frames_over, scratch_short, reach_over, space_short, pair_differs}
 use Rattle.laws.specs.general.Cases.{lt_or_le}
-use Rattle.laws.specs.checks.Checks.{not_both, same_number, same_values, skip, skip_all, passed, passed_all, pass_all, stop_all, after-pass, accepted_too, refused_too, first_fails}
+use Rattle.laws.specs.checks.Checks.{not_both, same_number, same_values, skip, skip_all, passed, passed_all, pass_all, stop_all, after_pass, accepted_too, refused_too, first_fails}
 use Rattle.laws.specs.checks.Checks.{refused_for_space, accepted_for_space}
 use Rattle.laws.specs.general.Members.{of_map}
 use Rattle.laws.specs.checks.ChecksStack.{StackInOrder, stack_in_order}
@@ -48,7 +48,7 @@ module _ (before : List Check) (needed space : ℕ) where
 
     pub space_alone_after : {B : Type 0} (new old : B) → after (report_checks [] needed space) new old ≡ after (report_checks before needed space) new old
     unfolding report_checks
-    space_alone_after new old = sym (after-pass tt before _ new old (sym all))
+    space_alone_after new old = sym (after_pass tt before _ new old (sym all))
 
   -- one of them that fails refuses the report
   pub refused_before : {A : Type 0} (a : A) {n : ℕ} {v : List ℕ} → answer before a ≡ refused n v → refused n v ≡ answer (report_checks before needed space) a

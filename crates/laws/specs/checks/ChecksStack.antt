@@ -1,12 +1,12 @@
 -- The checks of a stack: the frames by the facts that a branch gives, as in `Checks.antt`, and what a stack whose
 -- checks pass was given.
-use Rattle.std.specs.Prelude.{◌≡◌, refl, true, false, List, [], ◌∷◌, ◌++◌, map, ℕ, zero, suc, ◌+◌, ◌*◌, ◌<◌, ◌≤◌, length, get_or}
-use Rattle.std.proofs.Common.{sym, ap, ◌∙◌, arith, lt-ltb, le-ltb, le-leb, ltb-false, leb-false, eqb-true}
+use Rattle.std.specs.Prelude.{◌≡◌, refl, false, List, [], ◌∷◌, ◌++◌, map, ℕ, zero, suc, ◌*◌, ◌<◌, ◌≤◌, length, get_or}
+use Rattle.std.proofs.Common.{sym, ap, ◌∙◌, lt-ltb, le-ltb, le-leb, ltb-false, leb-false, eqb-true}
 use Rattle.std.proofs.lemmas.Bool.{lt-leb, not-false}
 use Rattle.definitions.specs.Align.{Options, Stack, neighbour, walk, stack_of, step_bytes, step_words, stack_need, stack_bytes, stack_words}
 use Rattle.definitions.specs.Refusals.{Check, Answer, accepted, refused, answer, side_over, wrong_length, percentile_over, unequal, no_reference}
 use Rattle.definitions.specs.Refusals.{frames_over, scratch_short, pair_differs, frames_checks, stack_scratch_checks, stack_checks}
-use Rattle.laws.specs.checks.Checks.{stop, skip, done, passed, stop_all, skip_all, passed_all, length_skip}
+use Rattle.laws.specs.checks.Checks.{stop, skip, passed, stop_all, skip_all, passed_all, length_skip}
 use Rattle.laws.specs.images.Sizes.{Limits}
 use Rattle.laws.specs.search.StepBounds.{Small}
 

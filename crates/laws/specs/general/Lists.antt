@@ -3,7 +3,7 @@ use Rattle.std.specs.Prelude.{◌≡◌}
 use Rattle.std.proofs.Math.Path.{refl, sym, ap}
 use Rattle.std.proofs.Common.{◌∙◌, subst, ⊎_elim, add-zero, add-suc, not-suc-le-zero, eq-or-lt_of_le, le_of_suc-le-suc, zero-mul, le_refl, lt_of_lt_of_le, arith, ext_get_or}
 use mathlib.Core.List.{List, [], ◌∷◌, ◌++◌, append_assoc, append-nil}
-use Prim.Native.Nat.{ℕ, zero, suc, ◌+◌, ◌*◌, ◌-◌, ◌<◌, ◌≤◌}
+use Prim.Native.Nat.{ℕ, zero, suc, ◌+◌, ◌*◌, ◌<◌, ◌≤◌}
 use Rattle.std.proofs.Math.Nat.{suc-mul, mul-le-mul_right, le-suc}
 use Rattle.std.proofs.Math.Numerals.{add-one}
 use Rattle.definitions.specs.Build.{build, joined, image}

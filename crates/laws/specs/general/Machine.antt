@@ -1,14 +1,14 @@
--- What a need asks of a signed local, from an equation that says which whole number its chain of readings is. A signed local holds bits,
+-- What a goal asks of a signed local, from an equation that says which whole number its chain of readings is. A signed local holds bits,
 -- so each operation reads `to_z w (of_z w y)`: `read` takes one such reading off, and they nest as the code does.
 --     read            to_z w (of_z w y) is z, where y is z and z fits
---     fit             the need of a signed operation or cast: y fits, where y is z and z fits
---     to-nat, nat     the need of a cast to an unsigned type, and its value, where y is `pos n`
+--     fit             the goal of a signed operation or cast: y fits, where y is z and z fits
+--     to_nat, nat     the goal of a cast to an unsigned type, and its value, where y is `pos n`
 --     both            the sum of two readings
 --     fits32, fits64  that z fits, by its two parts (`Whole.antt`), which `omega` bounds;  part32    and back
 --     widen, sum_fits     that an i64 holds what an i32 holds, and the sum of two such
---     negated_fits, negated-nat, negated-read     0 less an i32 below 0, made in 64 bits: the needs of the operation and of its cast, and its value
---     negative, not_negative, under, not-under, held     what the code's tests of a coordinate say;  not-outside    held's converse
---     in_order, not-in-order     what a test of two coordinates says
+--     negated_fits, negated_nat, negated_read     0 less an i32 below 0, made in 64 bits: the goals of the operation and of its cast, and its value
+--     negative, not_negative, under, not_under, held     what the code's tests of a coordinate say;  not_outside    held's converse
+--     in_order, not_in_order     what a test of two coordinates says
 use Rattle.std.specs.Prelude.{◌≡◌, refl, Bool, true, false, ◌&&◌, ℕ, ◌+◌, ◌<◌, ◌≤◌, ◌^◌, min, max, T, ℤ, pos, negsuc, nat_abs, ◌+ℤ◌, ◌-ℤ◌}
 use Rattle.std.proofs.Math.Path.{sym, ap}
 use Rattle.std.proofs.Common.{ap₂, ◌∙◌, subst, arith, to_z-of_z}

@@ -13,7 +13,7 @@ use Rattle.definitions.specs.Sum.{sum}
 use Rattle.definitions.specs.Build.{build, joined, image, keep_if}
 use Rattle.laws.specs.general.Cases.{clash}
 
--- ---- membership: `in-` says what a list has, `of-` what each of its elements is
+-- ---- membership: `in_` says what a list has, `of_` what each of its elements is
 
 module _ {A : Type 0} where
   -- a list by index: what f gives below n

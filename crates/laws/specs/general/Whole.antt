@@ -2,8 +2,8 @@
 -- difference, a negation, an order and an equation of whole numbers is a linear fact of these two, which `omega` reads: hand it the law at
 -- the numbers in question, and `alone` at each of them.
 --     gap, add, minus, neg            of an operation's result
---     equal, parts-of                 from the parts to an equation, and back
---     lt-true, lt-false, le-true, le-false     from a test to the parts;  true-lt, false-lt, true-le, false-le     and back
+--     equal, parts_of                 from the parts to an equation, and back
+--     lt_true, lt_false, le_true, le_false     from a test to the parts;  true_lt, false_lt, true_le, false_le     and back
 --     alone                           min (ahead z) (behind z) ≡ 0: that one of the two is 0, in a form that `omega` reads
 use Rattle.std.specs.Prelude.{◌≡◌, refl, Bool, true, false, ℕ, zero, suc, ◌+◌, ◌-◌, ◌<◌, ◌≤◌, min, ltb, ℤ, pos, negsuc, neg_ℤ, ◌+ℤ◌, ◌-ℤ◌}
 use Rattle.std.proofs.Common.{sym, ap, ◌∙◌, zero-le, add-zero, arith, lt-ltb, le-ltb, le-leb, ltb-true, ltb-false, leb-true, leb-false}

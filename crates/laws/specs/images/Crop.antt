@@ -34,17 +34,17 @@ module _ (c : Shift → ℤ) where
       keeps : (i : ℕ) → i < length l → Keeps d e (c (get_or l i origin))
       keeps i m = inside_keeps d e (c (get_or l i origin)) k (h i m)
 
-      start-le : crop_start (map c l) ≤ d
-      start-le = largest_le ahead l d (λ i m. (keeps i m).low)
+      start_le : crop_start (map c l) ≤ d
+      start_le = largest_le ahead l d (λ i m. (keeps i m).low)
 
-      lost-le : crop_lost (map c l) ≤ e - d - 1
-      lost-le = largest_le behind l (e - d - 1) (λ i m. room (keeps i m).high)
+      lost_le : crop_lost (map c l) ≤ e - d - 1
+      lost_le = largest_le behind l (e - d - 1) (λ i m. room (keeps i m).high)
         where
           room : {b : ℕ} → d + b < e → b ≤ e - d - 1
           room {b} h = omega arith
 
-      inside-between : (crop_start (map c l) ≤ d) × (d < crop_start (map c l) + crop_width e (map c l))
-      inside-between = (start-le, omega (arith, start-le, lost-le))
+      inside_between : (crop_start (map c l) ≤ d) × (d < crop_start (map c l) + crop_width e (map c l))
+      inside_between = (start_le, omega (arith, start_le, lost_le))
 
 -- ---- the theorem, for any list of shifts: frame i is moved by the i-th
 
@@ -63,8 +63,8 @@ module _ (l : List Shift) (w h x y : ℕ) where
   pub covered_crop : x < w → y < h → CoveredByAll l w h x y → Place (common_crop l w h) x y
   unfolding common_crop
   covered_crop a b c =
-      let across = inside-between (λ (s : Shift). s.x) x w l a (λ i k. (c i k).across) in
-      let down = inside-between (λ (s : Shift). s.y) y h l b (λ i k. (c i k).down) in
+      let across = inside_between (λ (s : Shift). s.x) x w l a (λ i k. (c i k).across) in
+      let down = inside_between (λ (s : Shift). s.y) y h l b (λ i k. (c i k).down) in
       record { from_x = across.0; to_x = across.1; from_y = down.0; to_y = down.1 }
 
 -- a place of a crop is a place of the frame

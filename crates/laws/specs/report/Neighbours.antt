@@ -1,6 +1,6 @@
 -- Neighbour shifts: they are the shifts one pixel away from a centre, none lies less far away but the centre itself, and the test
 -- tells them.
-use Rattle.std.specs.Prelude.{◌≡◌, true, false, ℕ, ◌+◌, ◌≤◌, ◌<◌, ltb, ℤ, ◌-ℤ◌}
+use Rattle.std.specs.Prelude.{◌≡◌, true, false, ◌+◌, ◌≤◌, ◌<◌, ltb, ℤ, ◌-ℤ◌}
 use Rattle.std.proofs.Math.Path.{sym}
 use Rattle.std.proofs.Common.{ap, ◌∙◌, arith}
 use Rattle.std.proofs.Math.Logic.{⊎_elim}

@@ -23,9 +23,9 @@ use Rattle.laws.specs.report.Windows.{Earlier, above, left, window_within, withi
 
 -- ---- the rivals
 
-not-true : (t : Bool) → not t ≡ true → t ≡ false
-not-true true e = clash (sym e)
-not-true false e = refl
+not_true : (t : Bool) → not t ≡ true → t ≡ false
+not_true true e = clash (sym e)
+not_true false e = refl
 
 module _ (at : Shift → Counts) (u : Question) where
   -- a survey gives the rivals, and nothing else
@@ -41,7 +41,7 @@ module _ (at : Shift → Counts) (u : Question) where
         down = near.1;
         compares = leb-true u.floor (at s).compared test.0;
         disagrees = leb-true (at s).disagreeing u.limit test.1;
-        no_neighbour_shift = no_neighbour u.centre s (not-true (is_neighbour_shift u.centre s) both.0);
+        no_neighbour_shift = no_neighbour u.centre s (not_true (is_neighbour_shift u.centre s) both.0);
       }
 
   pub rival_survey : (s : Shift) → Rival at u s → Memᴰ s (survey at u)

@@ -65,10 +65,10 @@ module _ (at : Shift → Counts) (u : Question) where
   -- all, where none compares as many as the floor
   pub survey_nothing : ((s : Shift) → (at s).compared < u.floor) → survey at u ≡ []
   unfolding survey comes_close
-  survey_nothing few = keep_nothing (is_rival at u) under-floor (window u.centre u.reach)
+  survey_nothing few = keep_nothing (is_rival at u) under_floor (window u.centre u.reach)
     where
-      under-floor : (s : Shift) → is_rival at u s ≡ false
-      under-floor s = not_close s (ap (λ (t : Bool). t && leb (at s).disagreeing u.limit) (lt-leb u.floor (at s).compared (few s)))
+      under_floor : (s : Shift) → is_rival at u s ≡ false
+      under_floor s = not_close s (ap (λ (t : Bool). t && leb (at s).disagreeing u.limit) (lt-leb u.floor (at s).compared (few s)))
 
   -- ---- how many there can be: no more than the columns, and than the columns of all rows
 

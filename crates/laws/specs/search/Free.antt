@@ -4,7 +4,7 @@ use Rattle.std.proofs.Common.{sym, ap, ◌∙◌, subst, arith, drop-drop}
 use Rattle.std.proofs.lemmas.List.Edits.{sets}
 use Rattle.std.proofs.Math.Seq.{length-sets}
 use Rattle.definitions.specs.Refusals.{Check, accepted, refused, answer, FreeUpTo, Scratch}
-use Rattle.laws.specs.checks.Checks.{after-accepted, after-refused}
+use Rattle.laws.specs.checks.Checks.{after_accepted, after_refused}
 use Rattle.laws.specs.general.Writes.{drop_past}
 
 pub free_same : (need : ℕ) (old : List ℕ) → FreeUpTo need old old
@@ -26,14 +26,14 @@ free_stored l vs i n h = record { long = length-sets l i vs; past = drop_past l 
 
 module _ (l : List Check) (need : ℕ) {old new : List ℕ} where
   pub scratch_free : accepted (tt {0}) ≡ answer l tt → FreeUpTo need old new → Scratch l need old new
-  scratch_free e f = subst (λ (X : Type 0). X) (sym (after-accepted (tt {0}) l (FreeUpTo need old new) (new ≡ old) (sym e))) f
+  scratch_free e f = subst (λ (X : Type 0). X) (sym (after_accepted (tt {0}) l (FreeUpTo need old new) (new ≡ old) (sym e))) f
 
   pub scratch_kept : {n : ℕ} {v : List ℕ} → refused n v ≡ answer l (tt {0}) → new ≡ old → Scratch l need old new
-  scratch_kept e f = subst (λ (X : Type 0). X) (sym (after-refused (tt {0}) l (FreeUpTo need old new) (new ≡ old) (sym e))) f
+  scratch_kept e f = subst (λ (X : Type 0). X) (sym (after_refused (tt {0}) l (FreeUpTo need old new) (new ≡ old) (sym e))) f
 
   -- back
   pub free_after : answer l (tt {0}) ≡ accepted tt → Scratch l need old new → FreeUpTo need old new
-  free_after e s = subst (λ (X : Type 0). X) (after-accepted (tt {0}) l (FreeUpTo need old new) (new ≡ old) e) s
+  free_after e s = subst (λ (X : Type 0). X) (after_accepted (tt {0}) l (FreeUpTo need old new) (new ≡ old) e) s
 
   pub kept_after : {n : ℕ} {v : List ℕ} → answer l (tt {0}) ≡ refused n v → Scratch l need old new → new ≡ old
-  kept_after e s = subst (λ (X : Type 0). X) (after-refused (tt {0}) l (FreeUpTo need old new) (new ≡ old) e) s
+  kept_after e s = subst (λ (X : Type 0). X) (after_refused (tt {0}) l (FreeUpTo need old new) (new ≡ old) e) s

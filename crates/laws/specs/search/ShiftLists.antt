@@ -1,7 +1,7 @@
 -- The shifts of a stack in a list, and the step of a frame, which is its shift less its neighbour's.
-use Rattle.std.specs.Prelude.{◌≡◌, refl, List, [], ◌∷◌, ℕ, zero, suc, ◌+◌, ◌-◌, ◌*◌, ◌<◌, ◌≤◌, ℤ, pos, ◌+ℤ◌, ◌-ℤ◌, get_or}
-use Rattle.std.proofs.Common.{sym, ap, ◌∙◌, arith}
-use Rattle.definitions.specs.Geometry.{Shift, origin, offset, listed}
+use Rattle.std.specs.Prelude.{◌≡◌, refl, List, [], ◌∷◌, ℕ, zero, suc, ◌+◌, ◌*◌, ℤ, pos, ◌+ℤ◌, ◌-ℤ◌, get_or}
+use Rattle.std.proofs.Common.{ap, ◌∙◌, arith}
+use Rattle.definitions.specs.Geometry.{Shift, origin, listed}
 use Rattle.definitions.specs.Align.{Stack, neighbour, step_of, shift_of}
 use Rattle.laws.specs.search.Walk.{shift_by_neighbour}
 use Rattle.laws.specs.general.Whole.{add, minus, equal}

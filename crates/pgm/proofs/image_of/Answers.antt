@@ -2,7 +2,7 @@
 use Prim.Native.Nat.{◌-◌}
 use native.Mathlib.Omega.{arith}
 use Rattle.pgm_format.specs.Pgm.{Image, image_from}
-use Rattle.pgm_format.specs.SizeChecks.{over_stop, highest_stop, short-stop, all_pass}
+use Rattle.pgm_format.specs.SizeChecks.{over_stop, highest_stop, short_stop, all_pass}
 use Rattle.pgm.specs.declared.header.Head.{Head}
 use Rattle.pgm.proofs.Images.{sizes_of}
 use Rattle.pgm.proofs.image_of.Goals as goal
@@ -23,7 +23,7 @@ returns-then-highest-ne-HIGHEST c =
 pub returns-then-length-head : goal.returns-then-length-head
 returns-then-length-head c =
     let a = c.args in
-    short-stop (image a.head) (sizes_of a.head) (a.length - a.head.start) (omega arith) c.if-highest-ne-HIGHEST.false c.if-length-head.true
+    short_stop (image a.head) (sizes_of a.head) (a.length - a.head.start) (omega arith) c.if-highest-ne-HIGHEST.false c.if-length-head.true
 
 pub returns : goal.returns
 returns c =

@@ -7,7 +7,7 @@ use lib.ListN.{length}
 use Rattle.definitions.specs.Decimal.{decimal}
 use Rattle.laws.specs.images.Sizes.{area}
 use Rattle.pgm_format.specs.Pgm.{Frame, Within, header_bytes, pgm}
-use Rattle.pgm_format.specs.Writes.{over_stop, count_stop, room-stop, all_pass}
+use Rattle.pgm_format.specs.Writes.{over_stop, count_stop, room_stop, all_pass}
 use Rattle.pgm_format.specs.Written.{pgm_long, header_long, header_short, pgm_short}
 use Rattle.pgm.proofs.Writing.{as_it_was, as_written}
 use Rattle.pgm.proofs.write.Goals as goal
@@ -58,7 +58,7 @@ overflow_add-end c =
 pub returns-then-end-file : goal.returns-then-end-file
 returns-then-end-file c =
     let f = frame c.args.width c.args.height c.args.samples.now in
-    as_it_was f _ (room-stop _ f _ (omega arith) c.if-samples-width.false (omega (arith, (room f c.digits-blank.ensures c.digits.ensures).1)))
+    as_it_was f _ (room_stop _ f _ (omega arith) c.if-samples-width.false (omega (arith, (room f c.digits-blank.ensures c.digits.ensures).1)))
 
 pub returns : goal.returns
 returns c =

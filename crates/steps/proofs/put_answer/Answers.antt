@@ -9,7 +9,7 @@ use Rattle.definitions.specs.Report.{Terms, verdicts}
 use Rattle.mtb_align.specs.Search.{options_in}
 use Rattle.mtb_align.specs.Survey.{Reported, terms_in, report_answer}
 use Rattle.steps.specs.Text.{refusal_text, input_stack, input_terms}
-use Rattle.steps.proofs.Called.{Call, answered, turned_down, summary-text, left, input_stack_lem, few_needed, text_none}
+use Rattle.steps.proofs.Called.{Call, answered, turned_down, summary_text, left, input_stack_lem, few_needed, text_none}
 use Rattle.steps.proofs.Puts.{put_as}
 use Rattle.steps.proofs.put_answer.Goals.{After-report-answer}
 use Rattle.steps.proofs.put_answer.Goals as goal
@@ -72,7 +72,8 @@ returns-in-Reported c =
     let l = lists (goal.at.returns-in-Reported c).After-report-answer in
     record {
       text = put_as c.put_summary.ensures
-          (summary-text (called (goal.at.returns-in-Reported c).After-report-answer) e.0 a.shifts.now a.verdicts.now (replicate 140 0) (ap (λ (x : Reported). x.crop) e.1) (ap (λ (x : Reported). x.records) e.1)
+          (summary_text (called (goal.at.returns-in-Reported c).After-report-answer) e.0 a.shifts.now a.verdicts.now (replicate 140 0) (ap (λ (x : Reported). x.crop) e.1)
+          (ap (λ (x : Reported). x.records) e.1)
           f.written.placed f.written.judged f.written.recorded);
       shifts = l.0;
       verdicts = l.1;
@@ -85,7 +86,8 @@ returns-in-Refused c =
     let l = lists (goal.at.returns-in-Refused c).After-report-answer in
     record {
       text = put_as c.put_refusal.ensures
-          (ap refusal_text (c.number.ensures ∙ e.1) ∙ text_none a.samples.now (length a.widths.now) (called (goal.at.returns-in-Refused c).After-report-answer).whole (called (goal.at.returns-in-Refused c).After-report-answer).most e.0);
+          (ap refusal_text (c.number.ensures ∙ e.1) ∙ text_none a.samples.now (length a.widths.now) (called (goal.at.returns-in-Refused c).After-report-answer).whole
+          (called (goal.at.returns-in-Refused c).After-report-answer).most e.0);
       shifts = l.0;
       verdicts = l.1;
     }

@@ -36,25 +36,33 @@ pub overflow_mul-result : goal.overflow_mul-result
 overflow_mul-result c = omega (arith, small_row (goal.at.overflow_mul-result c).After-planes_of-planes 0 (omega arith))
 
 pub overflow_add-result : goal.overflow_add-result
-overflow_add-result c = omega (arith, small-start (goal.at.overflow_add-result c).After-planes_of-planes 0 (omega arith), small_row (goal.at.overflow_add-result c).After-planes_of-planes 0 (omega arith))
+overflow_add-result c =
+    omega (arith, small-start (goal.at.overflow_add-result c).After-planes_of-planes 0 (omega arith), small_row (goal.at.overflow_add-result c).After-planes_of-planes 0 (omega arith))
 
 pub overflow_mul-result-then-y-eq0 : goal.overflow_mul-result-then-y-eq0
 overflow_mul-result-then-y-eq0 c = omega (arith, small_row (goal.at.overflow_mul-result-then-y-eq0 c).After-planes_of-planes 1 (omega arith))
 
 pub overflow_add-result-then-y-eq0 : goal.overflow_add-result-then-y-eq0
 overflow_add-result-then-y-eq0 c =
-    omega (arith, small-start (goal.at.overflow_add-result-then-y-eq0 c).After-planes_of-planes 1 (omega arith), small_row (goal.at.overflow_add-result-then-y-eq0 c).After-planes_of-planes 1 (omega arith))
+    omega (
+      arith,
+      small-start (goal.at.overflow_add-result-then-y-eq0 c).After-planes_of-planes 1 (omega arith),
+      small_row (goal.at.overflow_add-result-then-y-eq0 c).After-planes_of-planes 1 (omega arith),
+    )
 
 pub returns-then-y-eq0 : goal.returns-then-y-eq0
 unfolding plane_of
-returns-then-y-eq0 c =
-    (place (goal.at.returns-then-y-eq0 c).After-planes_of-planes 0 0 (omega arith) (omega arith) (omega arith), place (goal.at.returns-then-y-eq0 c).After-planes_of-planes 1 1 (omega arith) (omega arith) (omega arith))
+returns-then-y-eq0 c = (
+  place (goal.at.returns-then-y-eq0 c).After-planes_of-planes 0 0 (omega arith) (omega arith) (omega arith),
+  place (goal.at.returns-then-y-eq0 c).After-planes_of-planes 1 1 (omega arith) (omega arith) (omega arith),
+)
 
 pub overflow_mul-result-2 : goal.overflow_mul-result-2
 overflow_mul-result-2 c = omega (arith, small_row (goal.at.overflow_mul-result-2 c).After-planes_of-planes 2 (omega arith))
 
 pub overflow_add-result-2 : goal.overflow_add-result-2
-overflow_add-result-2 c = omega (arith, small-start (goal.at.overflow_add-result-2 c).After-planes_of-planes 2 (omega arith), small_row (goal.at.overflow_add-result-2 c).After-planes_of-planes 2 (omega arith))
+overflow_add-result-2 c =
+    omega (arith, small-start (goal.at.overflow_add-result-2 c).After-planes_of-planes 2 (omega arith), small_row (goal.at.overflow_add-result-2 c).After-planes_of-planes 2 (omega arith))
 
 pub overflow_mul-result-3 : goal.overflow_mul-result-3
 overflow_mul-result-3 c = omega (arith, small_row (goal.at.overflow_mul-result-3 c).After-planes_of-planes 3 (omega arith))
@@ -65,5 +73,7 @@ overflow_add-result-3 c =
 
 pub returns : goal.returns
 unfolding plane_of
-returns c =
-    (place (goal.at.returns c).After-planes_of-planes 2 0 (omega arith) (omega arith) (omega arith), place (goal.at.returns c).After-planes_of-planes 3 1 (omega arith) (omega arith) (omega arith))
+returns c = (
+  place (goal.at.returns c).After-planes_of-planes 2 0 (omega arith) (omega arith) (omega arith),
+  place (goal.at.returns c).After-planes_of-planes 3 1 (omega arith) (omega arith) (omega arith),
+)

@@ -7,7 +7,7 @@ use Rattle.definitions.specs.Bitmap.{bitmap_words}
 use Rattle.definitions.specs.Refusals.{total_checks, accepted}
 use Rattle.laws.specs.bitmaps.Bitmaps.{padding_clear, all_total}
 use Rattle.laws.specs.checks.Checks.{sides_within, sides_stop, padded_stop, padded_skip, done}
-use Rattle.mtb_align.proofs.Pixels.{bitmap_fits, long_stop, long-skip}
+use Rattle.mtb_align.proofs.Pixels.{bitmap_fits, long_stop, long_skip}
 use Rattle.mtb_align.proofs.bitmap.count_ones.Goals.{Else-side_over, Else-words-height}
 use Rattle.mtb_align.proofs.bitmap.count_ones.Goals as goal
 
@@ -39,7 +39,8 @@ padding_set-requires c =
 pub returns-then-padding_set : goal.returns-then-padding_set
 unfolding total_checks
 returns-then-padding_set c =
-    long-skip _ _ _ c.words_per_row.ensures (sides (goal.at.returns-then-padding_set c).Else-side_over) _ _ c.if-words-height.false _ (padded_stop _ _ _ _ _ (ltb-true _ _ (sym c.padding_set.ensures ∙ c.if-padding_set.true)))
+    long_skip _ _ _ c.words_per_row.ensures (sides (goal.at.returns-then-padding_set c).Else-side_over) _ _ c.if-words-height.false _
+    (padded_stop _ _ _ _ _ (ltb-true _ _ (sym c.padding_set.ensures ∙ c.if-padding_set.true)))
 
 pub ones_in-requires : goal.ones_in-requires
 ones_in-requires c =
@@ -50,7 +51,7 @@ unfolding total_checks
 returns c =
     let z = ltb-false _ _ (sym c.padding_set.ensures ∙ c.if-padding_set.false) in
     ap accepted (c.ones_in.ensures ∙ all_total (padding_clear _ _ _ (long (goal.at.returns c).Else-words-height) (omega (arith, z))))
-    ∙ long-skip _ _ _ c.words_per_row.ensures (sides (goal.at.returns c).Else-side_over) _ _ c.if-words-height.false _ (padded_skip _ _ _ _ _ z (done _))
+    ∙ long_skip _ _ _ c.words_per_row.ensures (sides (goal.at.returns c).Else-side_over) _ _ c.if-words-height.false _ (padded_skip _ _ _ _ _ z (done _))
 
 pub words_per_row-requires : goal.words_per_row-requires
 words_per_row-requires c = (sides (goal.at.words_per_row-requires c).Else-side_over).0

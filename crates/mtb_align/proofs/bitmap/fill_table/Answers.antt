@@ -1,10 +1,7 @@
 -- Each run adds the entries of its values.
 use mathlib.Core.Path.{◌≡◌, sym, ◌∙◌}
-use mathlib.Core.List.{List}
 use Prim.Native.Nat.{ℕ, ◌+◌, ◌-◌, min}
 use native.Mathlib.Omega.{arith}
-use lib.ListN.{length, replicate}
-use lib.Seq.{sets}
 use Rattle.definitions.specs.Build.{build}
 use Rattle.laws.specs.general.Lists.{build_length}
 use Rattle.laws.specs.images.Runs.{fill_more}
@@ -27,40 +24,20 @@ ends c = record {
   far_is = c.min-far.ensures;
 }
 
--- the entries of the values before n, written over the table
-abbrev up_to : List ℕ → ℕ → ℕ → ℕ → List ℕ
-up_to table cut tolerance n = sets table 0 (build n (entry_of cut tolerance))
-
--- ---- the table after each run
-
-module _ (table : List ℕ) {cut tolerance near above far : ℕ} (e : Ends cut tolerance near above far) where
-  first : {t : List ℕ} → t ≡ sets table 0 (replicate (near - 0) 4294967296) → t ≡ up_to table cut tolerance near
-  first p =
-      fill_more table (entry_of cut tolerance) 0 near 4294967296 (omega arith)
-      (λ v g h. entry_far_below cut tolerance v (omega arith))
-      (store_none table 0 (entry_of cut tolerance)) p
-
-  second : {s t : List ℕ} → s ≡ up_to table cut tolerance near → t ≡ sets s near (replicate (above - near) 0) → t ≡ up_to table cut tolerance above
-  second q p =
-      fill_more table (entry_of cut tolerance) near above 0 (omega arith)
-      (λ v g h. entry_near_below cut tolerance v (omega arith) (omega arith))
-      q p
-
-  third : {s t : List ℕ} → s ≡ up_to table cut tolerance above → t ≡ sets s above (replicate (far - above) 1) → t ≡ up_to table cut tolerance far
-  third q p =
-      fill_more table (entry_of cut tolerance) above far 1 (omega arith)
-      (λ v g h. entry_near_above cut tolerance v (omega arith) (omega arith))
-      q p
-
-  whole : {s t : List ℕ} → length table ≡ 256 → s ≡ up_to table cut tolerance far → t ≡ sets s far (replicate (256 - far) 4294967297) → t ≡ table_of cut tolerance
-  unfolding table_of
-  whole h q p =
-      let f = entry_of cut tolerance in
-      fill_more table f far 256 4294967297 (omega arith) (λ v g h. entry_far_above cut tolerance v (omega arith)) q p
-      ∙ sets_whole table (build 256 f) (build_length 256 f ∙ sym h)
-
+-- the table after each run; a lemma of its own for none of them, so that what an entry is is claimed in the answer
 pub returns : goal.returns
+unfolding table_of
 returns c =
+    let cut = c.args.cut in
+    let tolerance = c.args.tolerance in
+    let f = entry_of cut tolerance in
+    let table = c.args.table.now in
     let e = ends (goal.at.returns c).After-min-far in
-    let s = second _ e (first _ e c.fill_run.ensures) c.fill_run-2.ensures in
-    whole _ e c.requires (third _ e s c.fill_run-3.ensures) c.fill_run-4.ensures
+    let first = fill_more table f 0 c.min-near.result 4294967296 (omega (arith, e.near_is)) (λ v g h. entry_far_below cut tolerance v (omega (arith, e.near_is)))
+    (store_none table 0 f) c.fill_run.ensures in
+    let second = fill_more table f c.min-near.result c.min-above.result 0
+    (omega (arith, e.near_is, e.above_is)) (λ v g h. entry_near_below cut tolerance v (omega (arith, e.near_is)) (omega (arith, e.above_is))) first c.fill_run-2.ensures in
+    let third = fill_more table f c.min-above.result c.min-far.result 1
+    (omega (arith, e.above_is, e.far_is)) (λ v g h. entry_near_above cut tolerance v (omega (arith, e.above_is)) (omega (arith, e.far_is))) second c.fill_run-3.ensures in
+    fill_more table f c.min-far.result 256 4294967297 (omega (arith, e.far_is)) (λ v g h. entry_far_above cut tolerance v (omega (arith, e.far_is))) third c.fill_run-4.ensures
+    ∙ sets_whole table (build 256 f) (build_length 256 f ∙ sym c.requires)

@@ -7,7 +7,7 @@ use Rattle.definitions.specs.Bitmap.{bit_of, bit_at}
 use Rattle.definitions.specs.Refusals.{pixel_checks, accepted}
 use Rattle.laws.specs.bitmaps.Bitmaps.{word_inside, bit_test}
 use Rattle.laws.specs.checks.Checks.{sides_within, sides_stop}
-use Rattle.mtb_align.proofs.Pixels.{bitmap_fits, inside, long_stop, column-stop, row-stop, pixel-taken}
+use Rattle.mtb_align.proofs.Pixels.{bitmap_fits, inside, long_stop, column_stop, row_stop, pixel_taken}
 use Rattle.mtb_align.proofs.bitmap.get.Goals.{Else-side_over, Else-y-height}
 use Rattle.mtb_align.proofs.bitmap.get.Goals as goal
 
@@ -36,11 +36,11 @@ returns-then-words-height c =
 
 pub returns-then-x-width : goal.returns-then-x-width
 returns-then-x-width c =
-    column-stop _ _ _ c.words_per_row-n.ensures (sides (goal.at.returns-then-x-width c).Else-side_over) _ _ c.if-words-height.false _ _ c.if-x-width.true
+    column_stop _ _ _ c.words_per_row-n.ensures (sides (goal.at.returns-then-x-width c).Else-side_over) _ _ c.if-words-height.false _ _ c.if-x-width.true
 
 pub returns-then-y-height : goal.returns-then-y-height
 returns-then-y-height c =
-    row-stop _ _ _ c.words_per_row-n.ensures (sides (goal.at.returns-then-y-height c).Else-side_over) _ _ c.if-words-height.false _ _ c.if-x-width.false c.if-y-height.true
+    row_stop _ _ _ c.words_per_row-n.ensures (sides (goal.at.returns-then-y-height c).Else-side_over) _ _ c.if-words-height.false _ _ c.if-x-width.false c.if-y-height.true
 
 pub bounds-words-y : goal.bounds-words-y
 bounds-words-y c = omega (arith, read-inside (goal.at.bounds-words-y c).Else-y-height, c.if-words-height.false)
@@ -52,7 +52,7 @@ returns c =
     ap (λ (v : ℕ). accepted (eqb v 1))
     (bit_test (get_or x.words.now (x.y * c.words_per_row-n.result + x.x / 64) 0) (x.x % 64)
     ∙ ap (λ (n : ℕ). bit_of (get_or x.words.now (x.y * n + x.x / 64) 0) (x.x % 64)) c.words_per_row-n.ensures)
-    ∙ pixel-taken _ _ _ c.words_per_row-n.ensures (sides (goal.at.returns c).Else-side_over) _ _ c.if-words-height.false _ _ c.if-x-width.false c.if-y-height.false
+    ∙ pixel_taken _ _ _ c.words_per_row-n.ensures (sides (goal.at.returns c).Else-side_over) _ _ c.if-words-height.false _ _ c.if-x-width.false c.if-y-height.false
 
 pub words_per_row-n-requires : goal.words_per_row-n-requires
 words_per_row-n-requires c = (sides (goal.at.words_per_row-n-requires c).Else-side_over).0

@@ -7,7 +7,7 @@ use Rattle.definitions.specs.Refusals.{pixel_checks}
 use Rattle.definitions.specs.Sum.{bit}
 use Rattle.laws.specs.bitmaps.Bitmaps.{word_inside, with_one}
 use Rattle.laws.specs.checks.Checks.{sides_within, sides_stop, refuses, accepts}
-use Rattle.mtb_align.proofs.Pixels.{bitmap_fits, inside, long_stop, column-stop, row-stop, pixel-taken}
+use Rattle.mtb_align.proofs.Pixels.{bitmap_fits, inside, long_stop, column_stop, row_stop, pixel_taken}
 use Rattle.mtb_align.proofs.bitmap.set.Goals.{Else-side_over, Else-y-height}
 use Rattle.mtb_align.proofs.bitmap.set.Goals as goal
 
@@ -36,11 +36,13 @@ returns-then-words-height c =
 
 pub returns-then-x-width : goal.returns-then-x-width
 returns-then-x-width c =
-    let r = refuses _ _ _ (column-stop _ _ _ c.words_per_row-n.ensures (sides (goal.at.returns-then-x-width c).Else-side_over) tt _ c.if-words-height.false _ _ c.if-x-width.true) in record { answer = r.0; words = r.1 }
+    let r = refuses _ _ _ (column_stop _ _ _ c.words_per_row-n.ensures
+    (sides (goal.at.returns-then-x-width c).Else-side_over) tt _ c.if-words-height.false _ _ c.if-x-width.true) in record { answer = r.0; words = r.1 }
 
 pub returns-then-y-height : goal.returns-then-y-height
 returns-then-y-height c =
-    let r = refuses _ _ _ (row-stop _ _ _ c.words_per_row-n.ensures (sides (goal.at.returns-then-y-height c).Else-side_over) tt _ c.if-words-height.false _ _ c.if-x-width.false c.if-y-height.true) in record { answer = r.0; words = r.1 }
+    let r = refuses _ _ _ (row_stop _ _ _ c.words_per_row-n.ensures
+    (sides (goal.at.returns-then-y-height c).Else-side_over) tt _ c.if-words-height.false _ _ c.if-x-width.false c.if-y-height.true) in record { answer = r.0; words = r.1 }
 
 pub bounds-words-at-2 : goal.bounds-words-at-2
 bounds-words-at-2 c = omega (arith, at-inside (goal.at.bounds-words-at-2 c).Else-y-height, c.if-words-height.false)
@@ -50,7 +52,7 @@ unfolding with_bit
 returns c =
     let x = c.args in
     let words = x.words.now in
-    let r = accepts _ _ _ (pixel-taken _ _ _ c.words_per_row-n.ensures (sides (goal.at.returns c).Else-side_over) tt _ c.if-words-height.false _ _ c.if-x-width.false c.if-y-height.false)
+    let r = accepts _ _ _ (pixel_taken _ _ _ c.words_per_row-n.ensures (sides (goal.at.returns c).Else-side_over) tt _ c.if-words-height.false _ _ c.if-x-width.false c.if-y-height.false)
     (ap (set words (x.y * c.words_per_row-n.result + x.x / 64)) c.with_bit.ensures
     ∙ ap (λ (n : ℕ). set words (x.y * n + x.x / 64) (with_one (get_or words (x.y * n + x.x / 64) 0) (x.x % 64) (bit x.value))) c.words_per_row-n.ensures) in record { answer = r.0; words = r.1 }
 

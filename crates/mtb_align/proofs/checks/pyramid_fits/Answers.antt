@@ -42,9 +42,12 @@ halved_samples-requires c =
 pub returns-then-scratch-halved_samples : goal.returns-then-scratch-halved_samples
 unfolding pyramid_checks
 returns-then-scratch-halved_samples c =
-    sides_skip tt _ _ _ (within (goal.at.returns-then-scratch-halved_samples c).Else-side_over) (length_skip tt _ _ _ c.if-samples-width.false (scratch_stop tt _ _ _ (omega (arith, need (goal.at.returns-then-scratch-halved_samples c).After-halved_samples, c.if-scratch-halved_samples.true))))
+    sides_skip tt _ _ _ (within (goal.at.returns-then-scratch-halved_samples c).Else-side_over)
+    (length_skip tt _ _ _ c.if-samples-width.false (scratch_stop tt _ _ _
+    (omega (arith, need (goal.at.returns-then-scratch-halved_samples c).After-halved_samples, c.if-scratch-halved_samples.true))))
 
 pub returns : goal.returns
 unfolding pyramid_checks
 returns c =
-    sides_skip tt _ _ _ (within (goal.at.returns c).Else-side_over) (length_skip tt _ _ _ c.if-samples-width.false (scratch_skip tt _ _ _ (omega (arith, need (goal.at.returns c).After-halved_samples, c.if-scratch-halved_samples.false)) (done tt)))
+    sides_skip tt _ _ _ (within (goal.at.returns c).Else-side_over)
+    (length_skip tt _ _ _ c.if-samples-width.false (scratch_skip tt _ _ _ (omega (arith, need (goal.at.returns c).After-halved_samples, c.if-scratch-halved_samples.false)) (done tt)))

@@ -29,9 +29,11 @@ returns-then-bytes-bytes_needed c = scratch_stop tt _ _ _ (omega (arith, bytes-a
 pub returns-then-words-words_needed : goal.returns-then-words-words_needed
 unfolding stack_scratch_checks
 returns-then-words-words_needed c =
-    scratch_skip tt _ _ _ (omega (arith, bytes-are (goal.at.returns-then-words-words_needed c).After-bytes_needed, c.if-bytes-bytes_needed.false)) (scratch_stop tt _ _ _ (omega (arith, words_are (goal.at.returns-then-words-words_needed c).After-words_needed, c.if-words-words_needed.true)))
+    scratch_skip tt _ _ _ (omega (arith, bytes-are (goal.at.returns-then-words-words_needed c).After-bytes_needed, c.if-bytes-bytes_needed.false))
+    (scratch_stop tt _ _ _ (omega (arith, words_are (goal.at.returns-then-words-words_needed c).After-words_needed, c.if-words-words_needed.true)))
 
 pub returns : goal.returns
 unfolding stack_scratch_checks
 returns c =
-    scratch_skip tt _ _ _ (omega (arith, bytes-are (goal.at.returns c).After-bytes_needed, c.if-bytes-bytes_needed.false)) (scratch_skip tt _ _ _ (omega (arith, words_are (goal.at.returns c).After-words_needed, c.if-words-words_needed.false)) (done tt))
+    scratch_skip tt _ _ _ (omega (arith, bytes-are (goal.at.returns c).After-bytes_needed, c.if-bytes-bytes_needed.false))
+    (scratch_skip tt _ _ _ (omega (arith, words_are (goal.at.returns c).After-words_needed, c.if-words-words_needed.false)) (done tt))

@@ -37,7 +37,8 @@ returns-then-samples-n c = skip_all tt (frames_checks _ _ _ _) _ (sym (passes (g
 
 pub returns-then-shifts-n : goal.returns-then-shifts-n
 unfolding stack_checks
-returns-then-shifts-n c = skip_all tt (frames_checks _ _ _ _) _ (sym (passes (goal.at.returns-then-shifts-n c).In-Done)) (length_skip tt _ _ _ c.if-samples-n.false (length_stop tt _ _ _ c.if-shifts-n.true))
+returns-then-shifts-n c =
+    skip_all tt (frames_checks _ _ _ _) _ (sym (passes (goal.at.returns-then-shifts-n c).In-Done)) (length_skip tt _ _ _ c.if-samples-n.false (length_stop tt _ _ _ c.if-shifts-n.true))
 
 pub scratch_fits-requires : goal.scratch_fits-requires
 scratch_fits-requires c = let s = (held (goal.at.scratch_fits-requires c).In-Done).limits in (s.width, s.height)
@@ -45,7 +46,8 @@ scratch_fits-requires c = let s = (held (goal.at.scratch_fits-requires c).In-Don
 pub returns-else-shifts-n : goal.returns-else-shifts-n
 unfolding stack_checks
 returns-else-shifts-n c =
-    skip_all tt (frames_checks _ _ _ _) _ (sym (passes (goal.at.returns-else-shifts-n c).In-Done)) (length_skip tt _ _ _ c.if-samples-n.false (length_skip tt _ _ _ c.if-shifts-n.false c.scratch_fits.ensures))
+    skip_all tt (frames_checks _ _ _ _) _ (sym (passes (goal.at.returns-else-shifts-n c).In-Done))
+    (length_skip tt _ _ _ c.if-samples-n.false (length_skip tt _ _ _ c.if-shifts-n.false c.scratch_fits.ensures))
 
 pub returns-in-Refused : goal.returns-in-Refused
 unfolding stack_checks

@@ -54,7 +54,8 @@ returns-then-percentile-gt-HIGHEST_PERCENTILE c =
 pub returns-then-target_percentile-gt-HIGHEST_PERCENTILE : goal.returns-then-target_percentile-gt-HIGHEST_PERCENTILE
 unfolding step_checks
 returns-then-target_percentile-gt-HIGHEST_PERCENTILE c =
-    past_sides _ _ _ _ (sym c.if-side_over.ensures) (sym c.if-side_over-2.ensures) _ (percentile_skip tt _ _ c.if-percentile-gt-HIGHEST_PERCENTILE.false (percentile_stop tt _ _ c.if-target_percentile-gt-HIGHEST_PERCENTILE.true))
+    past_sides _ _ _ _ (sym c.if-side_over.ensures) (sym c.if-side_over-2.ensures) _
+    (percentile_skip tt _ _ c.if-percentile-gt-HIGHEST_PERCENTILE.false (percentile_stop tt _ _ c.if-target_percentile-gt-HIGHEST_PERCENTILE.true))
 
 pub returns-then-sizes_differ : goal.returns-then-sizes_differ
 unfolding step_checks
@@ -75,7 +76,8 @@ pub returns-then-target-width : goal.returns-then-target-width
 unfolding step_checks
 returns-then-target-width c =
     past_sizes _ _ _ _ (sym c.if-side_over.ensures) (sym c.if-side_over-2.ensures)
-    c.if-percentile-gt-HIGHEST_PERCENTILE.false c.if-target_percentile-gt-HIGHEST_PERCENTILE.false (sym c.if-sizes_differ.ensures) _ (length_skip tt _ _ _ c.if-reference-width.false (length_stop tt _ _ _ c.if-target-width.true))
+    c.if-percentile-gt-HIGHEST_PERCENTILE.false c.if-target_percentile-gt-HIGHEST_PERCENTILE.false (sym c.if-sizes_differ.ensures) _
+    (length_skip tt _ _ _ c.if-reference-width.false (length_stop tt _ _ _ c.if-target-width.true))
 
 pub bytes_needed-requires : goal.bytes_needed-requires
 bytes_needed-requires c = within (goal.at.bytes_needed-requires c).Else-side_over
@@ -104,4 +106,5 @@ returns c =
     past_lengths _ _ _ _ (sym c.if-side_over.ensures) (sym c.if-side_over-2.ensures)
     c.if-percentile-gt-HIGHEST_PERCENTILE.false c.if-target_percentile-gt-HIGHEST_PERCENTILE.false (sym c.if-sizes_differ.ensures)
     c.if-reference-width.false c.if-target-width.false _
-    (scratch_skip tt _ _ _ (omega (arith, c.bytes_needed.ensures, c.if-bytes-bytes_needed.false)) (scratch_skip tt _ _ _ (omega (arith, c.words_needed.ensures, c.if-words-words_needed.false)) (done tt)))
+    (scratch_skip tt _ _ _ (omega (arith, c.bytes_needed.ensures, c.if-bytes-bytes_needed.false))
+    (scratch_skip tt _ _ _ (omega (arith, c.words_needed.ensures, c.if-words-words_needed.false)) (done tt)))

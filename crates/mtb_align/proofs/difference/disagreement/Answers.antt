@@ -6,7 +6,7 @@ use borrow.Author.Tests.{ltb-true, ltb-false}
 use Rattle.definitions.specs.Refusals.{either_over}
 use Rattle.laws.specs.bitmaps.Bitmaps.{bitmap_most}
 use Rattle.laws.specs.checks.Checks.{sides_within}
-use Rattle.laws.specs.checks.ChecksDifference.{Sized, Long, long_as, reference_over, target_over, widths_differ, heights_differ, first_long, second_long, third_long, fourth_long, some-padded}
+use Rattle.laws.specs.checks.ChecksDifference.{Sized, Long, long_as, reference_over, target_over, widths_differ, heights_differ, first_long, second_long, third_long, fourth_long, some_padded}
 use Rattle.laws.specs.checks.ChecksDifference.{all_right, bitmaps}
 use Rattle.mtb_align.proofs.difference.disagreement.Goals.{After-words_per_row, Else-target_exclusion-words}
 use Rattle.mtb_align.proofs.difference.disagreement.Goals as goal
@@ -40,10 +40,12 @@ pub returns-then-side_over-2 : goal.returns-then-side_over-2
 returns-then-side_over-2 c = target_over _ _ _ _ _ _ _ _ _ (passed _ _ c.side_over.ensures c.if-side_over.false) (sym c.side_over-2.ensures ∙ c.if-side_over-2.true)
 
 pub returns-then-width-target_width : goal.returns-then-width-target_width
-returns-then-width-target_width c = widths_differ _ _ _ _ _ _ _ _ _ (passed _ _ c.side_over.ensures c.if-side_over.false) (passed _ _ c.side_over-2.ensures c.if-side_over-2.false) c.if-width-target_width.true
+returns-then-width-target_width c =
+    widths_differ _ _ _ _ _ _ _ _ _ (passed _ _ c.side_over.ensures c.if-side_over.false) (passed _ _ c.side_over-2.ensures c.if-side_over-2.false) c.if-width-target_width.true
 
 pub returns-then-height-target_height : goal.returns-then-height-target_height
-returns-then-height-target_height c = heights_differ _ _ _ _ _ _ _ _ _ (passed _ _ c.side_over.ensures c.if-side_over.false) (passed _ _ c.side_over-2.ensures c.if-side_over-2.false) c.if-height-target_height.true
+returns-then-height-target_height c =
+    heights_differ _ _ _ _ _ _ _ _ _ (passed _ _ c.side_over.ensures c.if-side_over.false) (passed _ _ c.side_over-2.ensures c.if-side_over-2.false) c.if-height-target_height.true
 
 pub overflow_mul-words : goal.overflow_mul-words
 overflow_mul-words c = let s = sized (goal.at.overflow_mul-words c).After-words_per_row in omega (arith, s.words_are, bitmap_most _ _ s.sides.0 s.sides.1)
@@ -52,13 +54,16 @@ pub returns-then-reference_threshold-words : goal.returns-then-reference_thresho
 returns-then-reference_threshold-words c = first_long _ _ _ _ _ _ _ _ _ (sized (goal.at.returns-then-reference_threshold-words c).After-words_per_row) c.if-reference_threshold-words.true
 
 pub returns-then-reference_exclusion-words : goal.returns-then-reference_exclusion-words
-returns-then-reference_exclusion-words c = second_long _ _ _ _ _ _ _ _ _ (sized (goal.at.returns-then-reference_exclusion-words c).After-words_per_row) c.if-reference_threshold-words.false c.if-reference_exclusion-words.true
+returns-then-reference_exclusion-words c =
+    second_long _ _ _ _ _ _ _ _ _ (sized (goal.at.returns-then-reference_exclusion-words c).After-words_per_row) c.if-reference_threshold-words.false c.if-reference_exclusion-words.true
 
 pub returns-then-target_threshold-words : goal.returns-then-target_threshold-words
-returns-then-target_threshold-words c = third_long _ _ _ _ _ _ _ _ _ (sized (goal.at.returns-then-target_threshold-words c).After-words_per_row) c.if-reference_threshold-words.false c.if-reference_exclusion-words.false c.if-target_threshold-words.true
+returns-then-target_threshold-words c =
+    third_long _ _ _ _ _ _ _ _ _ (sized (goal.at.returns-then-target_threshold-words c).After-words_per_row) c.if-reference_threshold-words.false c.if-reference_exclusion-words.false c.if-target_threshold-words.true
 
 pub returns-then-target_exclusion-words : goal.returns-then-target_exclusion-words
-returns-then-target_exclusion-words c = fourth_long _ _ _ _ _ _ _ _ _ (sized (goal.at.returns-then-target_exclusion-words c).After-words_per_row) c.if-reference_threshold-words.false c.if-reference_exclusion-words.false c.if-target_threshold-words.false c.if-target_exclusion-words.true
+returns-then-target_exclusion-words c =
+    fourth_long _ _ _ _ _ _ _ _ _ (sized (goal.at.returns-then-target_exclusion-words c).After-words_per_row) c.if-reference_threshold-words.false c.if-reference_exclusion-words.false c.if-target_threshold-words.false c.if-target_exclusion-words.true
 
 pub padded-requires : goal.padded-requires
 padded-requires c =
@@ -66,7 +71,9 @@ padded-requires c =
     (s.sides.0, s.sides.1, long_as (long (goal.at.padded-requires c).Else-target_exclusion-words) s.words_are)
 
 pub returns-then-padded : goal.returns-then-padded
-returns-then-padded c = some-padded _ _ _ _ _ _ _ _ _ (sized (goal.at.returns-then-padded c).After-words_per_row) (long (goal.at.returns-then-padded c).Else-target_exclusion-words) (ltb-true _ _ (sym c.padded.ensures ∙ c.if-padded.true))
+returns-then-padded c =
+    some_padded _ _ _ _ _ _ _ _ _ (sized (goal.at.returns-then-padded c).After-words_per_row) (long (goal.at.returns-then-padded c).Else-target_exclusion-words)
+    (ltb-true _ _ (sym c.padded.ensures ∙ c.if-padded.true))
 
 pub count-requires : goal.count-requires
 count-requires c =

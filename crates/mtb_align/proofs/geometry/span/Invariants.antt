@@ -13,4 +13,5 @@ abbrev pub coordinate_of : ℕ → List ℤ → ℕ → ℤ
 coordinate_of axis l k = get_or l (2 * k + axis) (pos 0)
 
 abbrev pub invariant-loop-k : goal.invariant-loop-k
-invariant-loop-k l = (l.k ≤ length l.shifts / 2) × (ahead l.most ≡ largest ahead (build l.k (coordinate_of l.axis l.shifts))) × (behind l.least ≡ largest behind (build l.k (coordinate_of l.axis l.shifts)))
+invariant-loop-k l =
+    (l.k ≤ length l.shifts / 2) × (ahead l.most ≡ largest ahead (build l.k (coordinate_of l.axis l.shifts))) × (behind l.least ≡ largest behind (build l.k (coordinate_of l.axis l.shifts)))

@@ -40,4 +40,5 @@ pub returns : goal.returns
 unfolding from_rgb_checks
 returns c =
     let s = sides_within _ _ (sym c.side_over.ensures ∙ c.if-side_over.false) in
-    let r = accepts _ _ _ (sides_skip tt _ _ _ s (length_skip tt _ _ _ c.if-rgb-width.false (length_skip tt _ _ _ c.if-gray-width.false (done tt)))) c.flatten.ensures in record { answer = r.0; gray = r.1 }
+    let r = accepts _ _ _ (sides_skip tt _ _ _ s (length_skip tt _ _ _ c.if-rgb-width.false (length_skip tt _ _ _ c.if-gray-width.false (done tt)))) c.flatten.ensures in
+    record { answer = r.0; gray = r.1 }

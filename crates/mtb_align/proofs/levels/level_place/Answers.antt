@@ -5,7 +5,7 @@ use native.Mathlib.Omega.{arith}
 use Rattle.definitions.specs.Shrink.{LevelPlace, level_start, nowhere, place_of}
 use Rattle.definitions.specs.Align.{levels}
 use Rattle.definitions.specs.Refusals.{accepted, answer, after, pyramid_checks}
-use Rattle.laws.specs.checks.Checks.{after-accepted, after-refused}
+use Rattle.laws.specs.checks.Checks.{after_accepted, after_refused}
 use Rattle.laws.specs.images.Levels.{levels_most}
 use Rattle.laws.specs.images.Pyramids.{side_le, samples_are, place_frame, place_past_lem, place_level, InOrder, in_order}
 use Rattle.laws.specs.images.Sizes.{area}
@@ -26,7 +26,7 @@ place : (c : In-Done) {p : LevelPlace}
     → let a = c.args in
     let there = place_of a.width a.height (levels a.width a.height a.bits) a.k in
     p ≡ there → p ≡ after (pyramid_checks a.width a.height a.samples a.bits a.scratch) there nowhere
-place c e = e ∙ sym (after-accepted (tt {0}) _ _ _ (sym (passes c)))
+place c e = e ∙ sym (after_accepted (tt {0}) _ _ _ (sym (passes c)))
 
 -- past the tests of k, which is a halved level
 halved : (c : Else-k-shrinks)
@@ -39,12 +39,13 @@ halved c f =
 
 pub returns-in_default : goal.returns-in_default
 unfolding nowhere
-returns-in_default c = sym (after-refused (tt {0}) _ _ _ (sym (ap outcome (sym c.in_default.is) ∙ c.pyramid_fits.ensures)))
+returns-in_default c = sym (after_refused (tt {0}) _ _ _ (sym (ap outcome (sym c.in_default.is) ∙ c.pyramid_fits.ensures)))
 
 pub returns-then-k-eq0 : goal.returns-then-k-eq0
 returns-then-k-eq0 c =
     let a = c.args in
-    place (goal.at.returns-then-k-eq0 c).In-Done (ap (λ (n : ℕ). record { in_scratch = _; start = 0; samples = n }) (held (goal.at.returns-then-k-eq0 c).In-Done).whole ∙ place_frame a.width a.height _ a.k c.if-k-eq0.true)
+    place (goal.at.returns-then-k-eq0 c).In-Done (ap (λ (n : ℕ). record { in_scratch = _; start = 0; samples = n }) (held (goal.at.returns-then-k-eq0 c).In-Done).whole
+    ∙ place_frame a.width a.height _ a.k c.if-k-eq0.true)
 
 pub shrinks-requires : goal.shrinks-requires
 shrinks-requires c = let f = held (goal.at.shrinks-requires c).In-Done in (f.wide, f.high)

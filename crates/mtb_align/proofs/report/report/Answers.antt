@@ -6,7 +6,7 @@ use lib.ListN.{length}
 use Rattle.definitions.specs.Align.{stack_of}
 use Rattle.definitions.specs.Refusals.{accepted, answer}
 use Rattle.definitions.specs.Report.{records_needed}
-use Rattle.laws.specs.checks.Checks.{refused_too, after-refused}
+use Rattle.laws.specs.checks.Checks.{refused_too, after_refused}
 use Rattle.laws.specs.checks.ChecksReport.{SurveyInOrder, survey_in_order, space_alone, space_alone_after, refused_before}
 use Rattle.laws.specs.search.Free.{scratch_free, scratch_kept}
 use Rattle.mtb_align.specs.declared.align.Options.{Options}
@@ -116,9 +116,9 @@ returns-in-Refused c =
     record {
       written = record {
         answered = e;
-        placed = sym (after-refused r all _ _ (sym e));
-        judged = sym (after-refused r all _ _ (sym e));
-        recorded = sym (after-refused r all _ _ (sym e));
+        placed = sym (after_refused r all _ _ (sym e));
+        judged = sym (after_refused r all _ _ (sym e));
+        recorded = sym (after_refused r all _ _ (sym e));
       };
       pixels = scratch_kept first _ p refl;
       maps = scratch_kept first _ p refl;

@@ -9,7 +9,7 @@ use Rattle.definitions.specs.Geometry.{Shift, shifts_of, common_crop}
 use Rattle.definitions.specs.Align.{Stack, shifts}
 use Rattle.definitions.specs.Refusals.{accepted, refused, answer, report_checks}
 use Rattle.definitions.specs.Report.{Terms, records_needed, records, records_bytes, report_crop}
-use Rattle.laws.specs.checks.Checks.{done, after-accepted, after-refused, refused_for_space, accepted_for_space}
+use Rattle.laws.specs.checks.Checks.{done, after_accepted, after_refused, refused_for_space, accepted_for_space}
 use Rattle.laws.specs.images.Crop.{shifts_listed}
 use Rattle.laws.specs.report.Records.{records_number, report_bytes}
 use Rattle.laws.specs.report.Surveys.{frames_few}
@@ -50,9 +50,9 @@ returns-then-records-needed-clause-written c =
     refused_for_space r [] needed space (sym (done r)) (omega (arith, c.if-records-needed.true, number)) in
     record {
       answered = ap (λ (n : ℕ). refused 10 (n ∷ [])) number ∙ sym e;
-      placed = sym (after-refused r checks _ _ e);
-      judged = sym (after-refused r checks _ _ e);
-      recorded = sym (after-refused r checks _ _ e);
+      placed = sym (after_refused r checks _ _ e);
+      judged = sym (after_refused r checks _ _ e);
+      recorded = sym (after_refused r checks _ _ e);
     }
 
 pub returns-clause-written : goal.returns-clause-written
@@ -76,7 +76,7 @@ returns-clause-written c =
     ∙ ap (λ (l : List Shift). common_crop l f.width f.height) (shifts_listed (shifts a)) in
     record {
       answered = ap accepted (λ i. record { crop = crop i; records = number i }) ∙ sym e;
-      placed = moved ∙ sym (after-accepted r checks _ _ e);
-      judged = c.put_found.ensures.verdicts_after ∙ sym (after-accepted r checks _ _ e);
-      recorded = space_front a q c.args.records.now fits c.put_found.ensures.records_after ∙ sym (after-accepted r checks _ _ e);
+      placed = moved ∙ sym (after_accepted r checks _ _ e);
+      judged = c.put_found.ensures.verdicts_after ∙ sym (after_accepted r checks _ _ e);
+      recorded = space_front a q c.args.records.now fits c.put_found.ensures.records_after ∙ sym (after_accepted r checks _ _ e);
     }

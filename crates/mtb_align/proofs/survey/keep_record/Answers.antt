@@ -12,7 +12,8 @@ named s = let a = s.args in record { frame = a.frame; shift = shift_in a.shift; 
 
 pub returns-then-at-space : goal.returns-then-at-space
 returns-then-at-space c = c.put_record.ensures
-    ∙ sym (kept_all c.args.space.now c.args.number 1 (record_bytes (named (goal.at.returns-then-at-space c).Start)) (record_length (named (goal.at.returns-then-at-space c).Start)) (omega (arith, c.if-at-space.true)))
+    ∙ sym (kept_all c.args.space.now c.args.number 1 (record_bytes (named (goal.at.returns-then-at-space c).Start)) (record_length (named (goal.at.returns-then-at-space c).Start))
+    (omega (arith, c.if-at-space.true)))
 
 pub returns-else-at-space : goal.returns-else-at-space
 returns-else-at-space c = sym (kept_over c.args.space.now c.args.number (omega (arith, c.if-at-space.false)) (record_bytes (named (goal.at.returns-else-at-space c).Start)))

@@ -7,7 +7,8 @@ use Rattle.definitions.specs.Threshold.{bins_added}
 use Rattle.mtb_align.proofs.threshold.bins_added.Given as goal
 
 abbrev pub invariant-loop-level : goal.invariant-loop-level
-invariant-loop-level l = (l.level ≤ 256) × (l.level % 4 ≡ 0) × (l.added ≡ sum l.level (λ i. get_or l.bins i 0)) × (l.level + bins_added (drop l.level l.bins) l.goal l.added ≡ bins_added l.bins l.goal 0)
+invariant-loop-level l =
+    (l.level ≤ 256) × (l.level % 4 ≡ 0) × (l.added ≡ sum l.level (λ i. get_or l.bins i 0)) × (l.level + bins_added (drop l.level l.bins) l.goal l.added ≡ bins_added l.bins l.goal 0)
 
 abbrev pub decreases-loop-level : goal.decreases-loop-level
 decreases-loop-level l = 256 - l.level

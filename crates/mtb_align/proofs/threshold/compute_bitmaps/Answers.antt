@@ -44,7 +44,8 @@ overflow_mul-words c =
 pub returns-then-threshold-words : goal.returns-then-threshold-words
 unfolding packing_checks
 returns-then-threshold-words c =
-    let q = refuses_two _ _ _ _ _ (sides_skip tt _ _ _ (within (goal.at.returns-then-threshold-words c).Else-side_over) (length_skip tt _ _ _ c.if-samples-width.false (length_stop tt _ _ _ (λ p. c.if-threshold-words.true (p ∙ sym (words_are (goal.at.returns-then-threshold-words c).After-words_per_row)))))) in
+    let q = refuses_two _ _ _ _ _ (sides_skip tt _ _ _ (within (goal.at.returns-then-threshold-words c).Else-side_over)
+    (length_skip tt _ _ _ c.if-samples-width.false (length_stop tt _ _ _ (λ p. c.if-threshold-words.true (p ∙ sym (words_are (goal.at.returns-then-threshold-words c).After-words_per_row)))))) in
     record { answer = q.0; threshold = q.1.0; exclusion = q.1.1 }
 
 pub returns-then-exclusion-words : goal.returns-then-exclusion-words
@@ -75,8 +76,13 @@ cut_of-requires c =
 
 pub pack-requires : goal.pack-requires
 pack-requires c =
-    let s = within (goal.at.pack-requires c).Else-side_over in
-    (s.0, s.1, c.if-samples-width.false, c.if-threshold-words.false ∙ words_are (goal.at.pack-requires c).After-words_per_row, c.if-exclusion-words.false ∙ words_are (goal.at.pack-requires c).After-words_per_row)
+    let s = within (goal.at.pack-requires c).Else-side_over in (
+      s.0,
+      s.1,
+      c.if-samples-width.false,
+      c.if-threshold-words.false ∙ words_are (goal.at.pack-requires c).After-words_per_row,
+      c.if-exclusion-words.false ∙ words_are (goal.at.pack-requires c).After-words_per_row,
+    )
 
 pub returns : goal.returns
 unfolding packing_checks

@@ -24,7 +24,9 @@ returns-then-samples-width c = sides_skip _ _ _ _ (within (goal.at.returns-then-
 
 pub returns-then-percentile-gt-HIGHEST_PERCENTILE : goal.returns-then-percentile-gt-HIGHEST_PERCENTILE
 unfolding cut_checks
-returns-then-percentile-gt-HIGHEST_PERCENTILE c = sides_skip _ _ _ _ (within (goal.at.returns-then-percentile-gt-HIGHEST_PERCENTILE c).Else-side_over) (length_skip _ _ _ _ c.if-samples-width.false (percentile_stop _ _ _ c.if-percentile-gt-HIGHEST_PERCENTILE.true))
+returns-then-percentile-gt-HIGHEST_PERCENTILE c =
+    sides_skip _ _ _ _ (within (goal.at.returns-then-percentile-gt-HIGHEST_PERCENTILE c).Else-side_over)
+    (length_skip _ _ _ _ c.if-samples-width.false (percentile_stop _ _ _ c.if-percentile-gt-HIGHEST_PERCENTILE.true))
 
 pub cut_of-requires : goal.cut_of-requires
 cut_of-requires c = let s = within (goal.at.cut_of-requires c).Else-side_over in (s.0, s.1, c.if-samples-width.false, c.if-percentile-gt-HIGHEST_PERCENTILE.false)

@@ -3,7 +3,7 @@ use native.Mathlib.Omega.{arith}
 use Rattle.definitions.specs.Geometry.{offset}
 use Rattle.laws.specs.search.StepBounds.{Within, within_wider, step_of_small, shift_small}
 use Rattle.mtb_align.specs.Stack.{stack_in}
-use Rattle.mtb_align.proofs.Walked.{Turn, still_ready, walk_turn, one_walked, all-walked}
+use Rattle.mtb_align.proofs.Walked.{Turn, still_ready, walk_turn, one_walked, all_walked}
 use Rattle.mtb_align.proofs.walk.walk.Goals.{After-neighbour_of-neighbour}
 use Rattle.mtb_align.proofs.walk.walk.Goals as goal
 
@@ -51,4 +51,4 @@ loop-i-preserved c =
 pub returns-clause-shifts_after : goal.returns-clause-shifts_after
 returns-clause-shifts_after c =
     let a = stack_in c.args.frames c.args.percentiles.now c.args.samples.now in
-    all-walked a c.requires.0.framed.small c.args.shifts.now c.put_shift.ensures c.loop-i.invariant (omega (arith, c.loop-i-test.false))
+    all_walked a c.requires.0.framed.small c.args.shifts.now c.put_shift.ensures c.loop-i.invariant (omega (arith, c.loop-i-test.false))
