@@ -14,6 +14,6 @@ fi
 # the next call is not to take what is made of it for the port.
 rm -f target/speed/hall.sources
 sources=$(find -H Cargo.toml Cargo.lock {original,naive,trials,port,brackets}/{Cargo.toml,src} port/{archive.sh,build.rs} brackets/build.sh \
-  ../crates.txt $(crates_below | sed 's,^,../crates/,') "$archive" $(command -v rt || true) -name must-fail -prune -o -printf '%C@ %s %i %p\n')
+  ../crates.txt $(crates_below | sed 's,^,../crates/,') "$archive" $(command -v rt || true) \( -name must-fail -o -name out \) -prune -o -printf '%C@ %s %i %p\n')
 cargo build --profile speed --offline --locked --quiet --package brackets
 [ -n "${MTB_STATICLIB:-}" ] || printf '%s\n' "$sources" >target/speed/hall.sources

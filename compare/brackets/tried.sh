@@ -43,7 +43,7 @@ built_anew() {
 # An archive whose align_stack moves frame 1 by five columns more; else a copy, where there is no tool to make it.
 wrong_archive() {
   local tool
-  cp ../target/staticlib/libmtb_c.a "$room"
+  cp ../crates/mtb_c/out/libmtb_c.a "$room"
   for tool in cc ar objcopy; do command -v "$tool" >/dev/null || return 1; done
   objcopy --redefine-sym mtb_align_stack=true_align_stack "$room/libmtb_c.a"
   cat >"$room/wrong.c" <<'END'

@@ -1,4 +1,4 @@
-//! Finds the port's archive: in the repository's own `target/staticlib`, or in the
+//! Finds the port's archive: in the repository's own `crates/mtb_c/out`, or in the
 //! folder that `MTB_STATICLIB` names.
 
 use std::env;
@@ -11,7 +11,7 @@ fn main() {
         Some(named) => PathBuf::from(named),
         None => {
             let here = env::var_os("CARGO_MANIFEST_DIR").expect("cargo sets it");
-            PathBuf::from(here).join("../../target/staticlib")
+            PathBuf::from(here).join("../../crates/mtb_c/out")
         }
     };
 
@@ -19,8 +19,8 @@ fn main() {
     println!("cargo::rerun-if-changed={}", archive.display());
     if !archive.is_file() {
         println!(
-            "cargo::error=there is no {}: make it with `rt staticlib mtb_c` in the \
-             repository's root, or name its folder in MTB_STATICLIB",
+            "cargo::error=there is no {}: make it with `rt lib` in \
+             crates/mtb_c, or name its folder in MTB_STATICLIB",
             archive.display()
         );
     }
