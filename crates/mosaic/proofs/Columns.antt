@@ -6,8 +6,9 @@ use mathlib.Core.List.{List}
 use lib.ListN.{length, get_or, set, length-set}
 use lib.Seq.{sets}
 use borrow.Author.Tests.{eq-eqb, ne_eqb}
+use Rattle.definitions.specs.Build.{build}
 use Rattle.laws.specs.general.Cases.{cond_true, cond_false}
-use Rattle.laws.specs.general.Writes.{store_more, set_before, Stored, stored_more}
+use Rattle.laws.specs.general.Writes.{store_more, set_before, Stored, stored_none, stored_more, stored_all}
 use Rattle.laws.specs.general.Beside.{both, both_none, both_more}
 use Rattle.mosaic.specs.Rows.{every_second, woven}
 
@@ -33,15 +34,16 @@ module _ {s old new : List ℕ} {from i j k : ℕ} (q : Taken s from i j old new
       }
 
   -- a row of odd width ends with one even column more
-  pub taken_odd : (width : ℕ) {v : ℕ} → width % 2 ≡ 1 → k ≡ width / 2 → i + k < j → v ≡ get_or s (from + 2 * k) 0
-      → set new (i + k) v ≡ both old i j (every_second s ((width + 1) / 2) from) (every_second s (width / 2) (from + 1))
+  pub taken_odd : (width : ℕ) {v : ℕ} → width % 2 ≡ 1 → k ≡ width / 2 → i + width / 2 < j → v ≡ get_or s (from + 2 * (width / 2)) 0
+      → set new (i + width / 2) v ≡ both old i j (every_second s ((width + 1) / 2) from) (every_second s (width / 2) (from + 1))
   taken_odd width {v} e p l a =
-      let left : k + 1 ≡ (width + 1) / 2 = omega arith in
-      let right : k ≡ width / 2 = omega arith in
-      ap (λ (m : List ℕ). set m (i + k) v) q.are
-      ∙ set_before (sets old i (every_second s k from)) (every_second s k (from + 1)) (i + k) j v l
-      ∙ ap (λ (m : List ℕ). sets m j (every_second s k (from + 1))) (store_more old i k (second s from) refl a)
-      ∙ ap₂ (λ (m n : ℕ). both old i j (every_second s m from) (every_second s n (from + 1))) left right
+      let left : width / 2 + 1 ≡ (width + 1) / 2 = omega arith in
+      let pairs = width / 2 in
+      let are = subst (λ (m : ℕ). new ≡ both old i j (every_second s m from) (every_second s m (from + 1))) p q.are in
+      ap (λ (m : List ℕ). set m (i + pairs) v) are
+      ∙ set_before (sets old i (every_second s pairs from)) (every_second s pairs (from + 1)) (i + pairs) j v l
+      ∙ ap (λ (m : List ℕ). sets m j (every_second s pairs (from + 1))) (store_more old i pairs (second s from) refl a)
+      ∙ ap (λ (m : ℕ). both old i j (every_second s m from) (every_second s pairs (from + 1))) left
 
 -- ---- put together: 2 k columns, of two runs in turn
 
@@ -65,3 +67,13 @@ module _ (s : List ℕ) (i j : ℕ) where
       stored_more (stored_more q (a ∙ woven_even k)) (b ∙ woven_odd k) in
       subst (λ (m : ℕ). Stored (woven s i j) at old (set (set new (at + 2 * k) v) (at + 2 * k + 1) u) m) next
       (subst (λ (m : ℕ). Stored (woven s i j) at old (set (set new (at + 2 * k) v) m u) (2 * k + 1 + 1)) place both)
+
+  pub put_odd : {at : ℕ} {old new : List ℕ} {v : ℕ} (k width : ℕ) → Stored (woven s i j) at old new (2 * k) → width % 2 ≡ 1 → k ≡ width / 2
+      → v ≡ get_or s (i + width / 2) 0 → set new (at + 2 * (width / 2)) v ≡ sets old at (build width (woven s i j))
+  put_odd {at} {old} {new} {v} k width q e p a =
+      let here = subst (λ (m : ℕ). Stored (woven s i j) at old new (2 * m)) p q in
+      stored_all (stored_more here (a ∙ woven_even (width / 2))) (omega arith)
+
+pub ruleset taken = (taken_none, taken_odd)
+
+pub ruleset put = (stored_none, put_odd)

@@ -1,6 +1,6 @@
 -- What the loops over the rows have stored: every pixel of the rows so far at its place, and whole lists in the end.
 use Prim.Native.Nat.{ℕ, zero, suc, ◌+◌, ◌-◌, ◌*◌, ◌/◌, ◌<◌, ◌≤◌}
-use native.Mathlib.Nat.{not-suc-le-zero}
+use native.Mathlib.Nat.{not-suc-le-zero, mul_comm}
 use native.Mathlib.Omega.{arith}
 use mathlib.Core.Path.{◌≡◌, refl, sym, ap, ap₂, subst, ◌∙◌}
 use mathlib.Core.List.{List, [], ◌∷◌}
@@ -10,6 +10,7 @@ use lib.Seq.{sets, length-sets, get_or-set_same, get_or-set_other}
 use Rattle.definitions.specs.Build.{build, joined, sample}
 use Rattle.laws.specs.general.Cases.{lt_or_le}
 use Rattle.laws.specs.general.Lists.{build_length, build_at, build_same}
+use Rattle.laws.specs.images.Sizes.{row_inside}
 use Rattle.laws.specs.general.Writes.{sets_whole, rows_none, rows_more, get_d_before}
 use Rattle.mosaic_format.specs.Mosaic.{apart, place_of, together}
 use Rattle.mosaic_format.specs.Halves.{even_half, odd_half, by_parity}
@@ -160,3 +161,22 @@ module _ (w h : ℕ) (planes : List ℕ) where
   unfolding together
   all_together {old} {new} {y} l q e =
       q.are ∙ ap (λ (n : ℕ). sets old 0 (joined n row_together)) e ∙ sets_whole old (joined h row_together) (together_length w h planes ∙ sym l)
+
+-- ---- a row's runs lie inside both lists
+
+module _ (w h y : ℕ) {mosaic planes i j : ℕ} (m : mosaic ≡ w * h) (p : planes ≡ w * h) (l : y < h) (a : i ≡ place_of w h 0 y) (b : j ≡ place_of w h 1 y) where
+  row_ends : y * w + w ≤ mosaic
+  row_ends = omega (arith, row_inside w h y l, mul_comm w h)
+
+  odds_end : j + w / 2 ≤ planes
+  odds_end = omega (arith, run_inside w h y l 1 (omega arith), odd_half w)
+
+  pub fits_apart : (y * w + w ≤ mosaic) × (i + (w + 1) / 2 ≤ j) × (j + w / 2 ≤ planes)
+  fits_apart = (row_ends, omega (arith, run_behind w h y l, even_half w), odds_end)
+
+  pub fits_together : (i + (w + 1) / 2 ≤ planes) × (j + w / 2 ≤ planes) × (y * w + w ≤ mosaic)
+  fits_together = (omega (arith, run_inside w h y l 0 (omega arith), even_half w), odds_end, row_ends)
+
+pub ruleset rows_apart = (one_apart, all_apart)
+
+pub ruleset rows_together = (none_together, one_together, all_together)

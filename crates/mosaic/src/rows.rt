@@ -3,6 +3,7 @@ ghost use Rattle.std.specs.Prelude.{◌≡◌, ◌+◌, ◌*◌, ◌/◌, ◌%�
 ghost use Rattle.std.proofs.lemmas.List.Edits.{sets};
 ghost use Rattle.definitions.specs.Build.{build};
 ghost use Rattle.mosaic_format.specs.Mosaic.{apart, place_of, together};
+ghost use Rattle.mosaic_format.specs.Accepted.{InOrder};
 ghost use Rattle.mosaic.specs.Rows.{every_second, woven};
 
 use super::planes_of;
@@ -14,6 +15,7 @@ struct Row {
     odds: usize,
 }
 
+#[tactic(auto, using(crate::proofs::Standing::row_stands))]
 fn row_of(width: usize, height: usize, y: usize) -> Row
     requires { (width ≤ 8192) × (height ≤ 8192) × (y < height) }
     ensures { (result.evens ≡ place_of width height 0 y) × (result.odds ≡ place_of width height 1 y) }
@@ -32,15 +34,17 @@ fn row_of(width: usize, height: usize, y: usize) -> Row
     }
 }
 
-// Two samples side by side in one number, the left one below: one load, by which a row is read by vectors.
+// Two samples side by side in one number, the left one below: one load, by which a row is read by vectors. mtb_align has the like: a
+// public function for both would have no requires, and test the place at each pair.
 fn side_by_side(samples: &[u8], at: usize) -> u16
     requires { at + 2 ≤ length samples.now }
     ensures { (result % 256 ≡ get_or samples.now at 0) × (result / 256 ≡ get_or samples.now (at + 1) 0) }
 {
-    samples[at] as u16 + 256 * samples[at + 1] as u16
+    u16::from_le_bytes([samples[at], samples[at + 1]])
 }
 
 // A row of a mosaic, from `from` on, taken apart: its even columns and its odd ones, each in a run.
+#[tactic(auto, using(crate::proofs::Columns::taken))]
 fn take_row(mosaic: &[u8], from: usize, width: usize, planes: &mut [u8], row: Row)
     requires { (from + width ≤ length mosaic.now)
         × (row.evens + (width + 1) / 2 ≤ row.odds)
@@ -53,12 +57,10 @@ fn take_row(mosaic: &[u8], from: usize, width: usize, planes: &mut [u8], row: Ro
     let evens = row.evens;
     let odds = row.odds;
     let pairs = width / 2;
-    let mut k: usize = 0;
-    while k < pairs {
+    for k in 0..pairs {
         let two = side_by_side(mosaic, from + 2 * k);
         planes[evens + k] = (two % 256) as u8;
         planes[odds + k] = (two / 256) as u8;
-        k += 1;
     }
     if width % 2 == 1 {
         planes[evens + pairs] = mosaic[from + 2 * pairs];
@@ -66,6 +68,7 @@ fn take_row(mosaic: &[u8], from: usize, width: usize, planes: &mut [u8], row: Ro
 }
 
 // A row of a mosaic put together at `at`: samples of one run and of the other in turn.
+#[tactic(auto, using(crate::proofs::Columns::put))]
 fn put_row(planes: &[u8], row: Row, width: usize, mosaic: &mut [u8], at: usize)
     requires { (row.evens + (width + 1) / 2 ≤ length planes.now)
         × (row.odds + width / 2 ≤ length planes.now)
@@ -75,37 +78,31 @@ fn put_row(planes: &[u8], row: Row, width: usize, mosaic: &mut [u8], at: usize)
     let evens = row.evens;
     let odds = row.odds;
     let pairs = width / 2;
-    let mut k: usize = 0;
-    while k < pairs {
+    for k in 0..pairs {
         mosaic[at + 2 * k] = planes[evens + k];
         mosaic[at + 2 * k + 1] = planes[odds + k];
-        k += 1;
     }
     if width % 2 == 1 {
         mosaic[at + 2 * pairs] = planes[evens + pairs];
     }
 }
 
+#[tactic(auto, using(crate::proofs::Wholes::rows_apart))]
 pub(crate) fn take_rows(mosaic: &[u8], width: usize, height: usize, planes: &mut [u8])
-    requires { (width ≤ 8192) × (height ≤ 8192)
-        × (length mosaic.now ≡ width * height) × (length planes.old ≡ width * height) }
+    requires { InOrder width height (length mosaic.now) (length planes.old) }
     ensures { planes.new ≡ apart width height mosaic.now }
 {
-    let mut y: usize = 0;
-    while y < height {
+    for y in 0..height {
         take_row(mosaic, y * width, width, planes, row_of(width, height, y));
-        y += 1;
     }
 }
 
+#[tactic(auto, using(crate::proofs::Wholes::rows_together))]
 pub(crate) fn put_rows(planes: &[u8], width: usize, height: usize, mosaic: &mut [u8])
-    requires { (width ≤ 8192) × (height ≤ 8192)
-        × (length mosaic.old ≡ width * height) × (length planes.now ≡ width * height) }
+    requires { InOrder width height (length mosaic.old) (length planes.now) }
     ensures { mosaic.new ≡ together width height planes.now }
 {
-    let mut y: usize = 0;
-    while y < height {
+    for y in 0..height {
         put_row(planes, row_of(width, height, y), width, mosaic, y * width);
-        y += 1;
     }
 }

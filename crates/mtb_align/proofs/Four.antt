@@ -15,9 +15,19 @@ use Rattle.definitions.specs.Align.{Options, Exposure, bitmaps_at, counts_at, co
 use Rattle.definitions.specs.Refusals.{FreeUpTo}
 use Rattle.laws.specs.bitmaps.Bitmaps.{IsBitmap}
 use Rattle.laws.specs.bitmaps.Packed.{packed_length, packed_threshold, packed_exclusion, threshold_bitmap, exclusion_bitmap, counts_packed}
-use Rattle.laws.specs.images.Runs.{sets_then}
 use Rattle.laws.specs.general.Writes.{stored_front, drop_past}
-use Rattle.mtb_align.specs.Search.{map_at, FourMaps, TwoPairs, pair_counts, cost_in, packed_pair, pair_of, four_of}
+use Rattle.mtb_align.specs.Layout.{map_at, pair_counts, cost_in}
+use Rattle.mtb_align.specs.Search.{packed_pair, pair_of, four_of}
+
+-- What a Packed keeps of its words and sides.
+pub record TwoPairs (words : List ℕ) (w h : ℕ) : Type 0 where
+  pub wide : w ≤ 8192
+  pub high : h ≤ 8192
+  pub long : length words ≡ 4 * bitmap_words w h
+  pub reference_threshold : IsBitmap (map_at words w h 0) w h
+  pub reference_exclusion : IsBitmap (map_at words w h 1) w h
+  pub target_threshold : IsBitmap (map_at words w h 2) w h
+  pub target_exclusion : IsBitmap (map_at words w h 3) w h
 
 -- ---- a part of a list
 
@@ -49,13 +59,14 @@ module _ (w h tolerance : ℕ) (r t : Exposure) where
   unfolding four_of pair_of
   four_length = length-append (pair r) (pair t) ∙ omega (arith, pair_words r, pair_words t)
 
-  pub four_stored : (l : List ℕ) {m new : List ℕ} {c d k : ℕ} → c ≡ cut r.samples r.percentile → d ≡ cut t.samples t.percentile → k ≡ 2 * bitmap_words w h
-      → m ≡ sets l 0 (packed_pair w h r.samples c tolerance) → new ≡ sets m k (packed_pair w h t.samples d tolerance) → new ≡ sets l 0 four
-  unfolding four_of pair_of
-  four_stored l {m} {new} {c} {d} {k} a b e p q =
-      sets_then l 0 k (pair r) (pair t) (pair_words r ∙ sym e)
-      (p ∙ ap (λ (i : ℕ). sets l 0 (packed_pair w h r.samples i tolerance)) a)
-      (q ∙ ap₂ (λ (i j : ℕ). sets m i (packed_pair w h t.samples j tolerance)) (omega arith) b)
+  pub four_packed : {a b m n : List ℕ} {c d : ℕ} → c ≡ cut r.samples r.percentile → d ≡ cut t.samples t.percentile
+      → a ≡ packed_threshold w h r.samples c tolerance → b ≡ packed_exclusion w h r.samples c tolerance
+      → m ≡ packed_threshold w h t.samples d tolerance → n ≡ packed_exclusion w h t.samples d tolerance → (a ++ b) ++ (m ++ n) ≡ four
+  unfolding four_of pair_of packed_pair
+  four_packed p q ea eb em en =
+      ap₂ (λ (i j : List ℕ). i ++ j)
+      (ap₂ (λ (i j : List ℕ). i ++ j) ea eb ∙ ap (λ (k : ℕ). packed_threshold w h r.samples k tolerance ++ packed_exclusion w h r.samples k tolerance) p)
+      (ap₂ (λ (i j : List ℕ). i ++ j) em en ∙ ap (λ (k : ℕ). packed_threshold w h t.samples k tolerance ++ packed_exclusion w h t.samples k tolerance) q)
 
   module _ (l : List ℕ) (room : 4 * bitmap_words w h ≤ length l) {new : List ℕ} (e : new ≡ sets l 0 four) where
     pub four_front : (k : ℕ) → k ≡ 4 * bitmap_words w h → take k new ≡ four
@@ -108,16 +119,16 @@ module _ (w h tolerance : ℕ) (r t : Exposure) where
   is_bitmap : {a b : List ℕ} → a ≡ b → IsBitmap b w h → IsBitmap a w h
   is_bitmap e m = subst (λ (l : List ℕ). IsBitmap l w h) (sym e) m
 
-  four_maps : FourMaps four w h
-  four_maps = record {
+  pub four_pairs : w ≤ 8192 → h ≤ 8192 → TwoPairs four w h
+  four_pairs a b = record {
+    wide = a;
+    high = b;
+    long = four_length;
     reference_threshold = is_bitmap first (threshold_bitmap w h r.samples (cut r.samples r.percentile) tolerance);
     reference_exclusion = is_bitmap second (exclusion_bitmap w h r.samples (cut r.samples r.percentile) tolerance);
     target_threshold = is_bitmap third (threshold_bitmap w h t.samples (cut t.samples t.percentile) tolerance);
     target_exclusion = is_bitmap fourth (exclusion_bitmap w h t.samples (cut t.samples t.percentile) tolerance);
   }
-
-  pub four_pairs : w ≤ 8192 → h ≤ 8192 → TwoPairs four w h
-  four_pairs a b = record { wide = a; high = b; long = four_length; maps = four_maps }
 
   pub four_counts : (s : Shift) → pair_counts four w h s
       ≡ counts w h (bitmaps_of w r.samples (cut r.samples r.percentile) tolerance) (bitmaps_of w t.samples (cut t.samples t.percentile) tolerance) s

@@ -1,16 +1,16 @@
--- Halving in either mode: the sample that a turn along a row stores, what a loop over the rows has stored, and that each row lies inside.
+-- Halving in either mode: the sample that a turn along a row stores, and what a loop over the rows has stored.
 use mathlib.Core.Path.{◌≡◌, refl, sym, ap, ◌∙◌}
 use mathlib.Core.List.{List}
-use Prim.Native.Nat.{ℕ, ◌+◌, ◌*◌, ◌/◌, ◌%◌, ◌<◌, ◌≤◌}
-use native.Mathlib.Nat.{mul_comm, mul-le-mul_right}
+use Prim.Native.Nat.{ℕ, ◌+◌, ◌*◌, ◌/◌, ◌%◌}
+use native.Mathlib.Nat.{mul_comm, zero-add}
 use native.Mathlib.Omega.{arith}
-use lib.ListN.{length, get_or, drop}
-use lib.Seq.{sets, length-sets, get_or-drop}
+use lib.ListN.{length, get_or}
+use lib.Seq.{sets, length-sets}
 use Rattle.definitions.specs.Build.{build, joined}
-use Rattle.definitions.specs.Shrink.{Shrink, mean, average, subsample, halved_sample, shrink2}
+use Rattle.definitions.specs.Shrink.{Shrink, average, subsample, halved_sample, shrink2}
 use Rattle.laws.specs.general.Lists.{build_length, image_length}
-use Rattle.laws.specs.images.Sizes.{row_inside}
 use Rattle.laws.specs.general.Writes.{rows_none, rows_more, sets_whole}
+use Rattle.mtb_align.specs.Blocks.{block_sample}
 
 -- sample x of row y
 abbrev pub halved : Shrink → List ℕ → ℕ → ℕ → ℕ → ℕ
@@ -20,58 +20,41 @@ halved mode s w y x = halved_sample mode s w x y
 abbrev pub halved_row : Shrink → List ℕ → ℕ → ℕ → List ℕ
 halved_row mode s w y = build (w / 2) (halved mode s w y)
 
--- ---- sample x of row y, of the frame that stands in l from `from` on: its upper two samples start at top + 2 * x
+-- sample x of row y, by the two rows of its block, p and q, which have two samples side by side each
+module _ (s : List ℕ) (w x y p q : ℕ) where
+  pub block_is : (mode : Shrink) → (p % 256 ≡ get_or s (2 * y * w + 2 * x) 0) × (p / 256 ≡ get_or s (2 * y * w + 2 * x + 1) 0)
+      → (q % 256 ≡ get_or s (2 * y * w + w + 2 * x) 0) × (q / 256 ≡ get_or s (2 * y * w + w + 2 * x + 1) 0) → block_sample mode p q ≡ halved mode s w y x
+  unfolding halved_sample block_sample
+  block_is average (a, b) (c, d) =
+      let right : 2 * y * w + 2 * x + 1 ≡ 2 * y * w + (2 * x + 1) = omega arith in
+      let under : 2 * y * w + w + 2 * x ≡ (2 * y + 1) * w + 2 * x = omega arith in
+      let last : 2 * y * w + w + 2 * x + 1 ≡ (2 * y + 1) * w + (2 * x + 1) = omega arith in
+      cc
+  block_is subsample (a, b) _ = a
 
-module _ (l : List ℕ) (from w x y top : ℕ) (e : top ≡ from + 2 * y * w) where
-  pub left_is : get_or l (top + 2 * x) 0 ≡ halved subsample (drop from l) w y x
-  unfolding halved_sample
-  left_is =
-      let here : top + 2 * x ≡ from + (2 * y * w + 2 * x) = omega arith in
-      simp get_or-drop (cc)
+-- ---- over the rows: y rows are stored
 
-  -- the mean of the block, by p and q, which have two samples side by side each
-  pub mean_is : (p q : ℕ) → (p % 256 ≡ get_or l (top + 2 * x) 0) × (p / 256 ≡ get_or l (top + 2 * x + 1) 0)
-      → (q % 256 ≡ get_or l (top + w + 2 * x) 0) × (q / 256 ≡ get_or l (top + w + 2 * x + 1) 0)
-      → mean (p % 256) (p / 256) (q % 256) (q / 256) ≡ halved average (drop from l) w y x
-  unfolding halved_sample
-  mean_is p q (a, b) (c, d) =
-      let here : top + 2 * x ≡ from + (2 * y * w + 2 * x) = omega arith in
-      let right : top + 2 * x + 1 ≡ from + (2 * y * w + (2 * x + 1)) = omega arith in
-      let under : top + w + 2 * x ≡ from + ((2 * y + 1) * w + 2 * x) = omega arith in
-      let last : top + w + 2 * x + 1 ≡ from + ((2 * y + 1) * w + (2 * x + 1)) = omega arith in
-      simp get_or-drop (cc)
-
--- ---- over the rows: y rows are stored from `at` on
-
-pub record Rows (mode : Shrink) (s : List ℕ) (w at : ℕ) (old new : List ℕ) (y : ℕ) : Type 0 where
+pub record Rows (mode : Shrink) (s : List ℕ) (w : ℕ) (old new : List ℕ) (y : ℕ) : Type 0 where
   pub long : length new ≡ length old
-  pub are : new ≡ sets old at (joined y (halved_row mode s w))
+  pub are : new ≡ sets old 0 (joined y (halved_row mode s w))
 
-pub no_rows : (mode : Shrink) (s : List ℕ) (w at : ℕ) (old : List ℕ) → Rows mode s w at old old 0
-no_rows mode s w at old = record { long = refl; are = rows_none old at (halved_row mode s w) }
+module _ {mode : Shrink} {s : List ℕ} {w : ℕ} where
+  pub no_rows : (old : List ℕ) → Rows mode s w old old 0
+  no_rows old = record { long = refl; are = rows_none old 0 (halved_row mode s w) }
 
-pub one_row : {mode : Shrink} {s : List ℕ} {w at : ℕ} {old mid new : List ℕ} {y : ℕ} → Rows mode s w at old mid y
-    → new ≡ sets mid (at + y * (w / 2)) (halved_row mode s w y) → Rows mode s w at old new (y + 1)
-one_row {mode} {s} {w} {at} {old} {mid} {new} {y} q e = record {
-  long = ap length e ∙ length-sets mid (at + y * (w / 2)) (halved_row mode s w y) ∙ q.long;
-  are = rows_more old at (w / 2) y (halved_row mode s w) (λ j. build_length (w / 2) (halved mode s w j)) q.are e;
-}
+  pub one_row : {old mid new : List ℕ} {y : ℕ} → Rows mode s w old mid y → new ≡ sets mid (y * (w / 2)) (halved_row mode s w y) → Rows mode s w old new (y + 1)
+  one_row {old} {mid} {new} {y} q e = record {
+    long = ap length e ∙ length-sets mid (y * (w / 2)) (halved_row mode s w y) ∙ q.long;
+    are =
+        rows_more old 0 (w / 2) y (halved_row mode s w) (λ j. build_length (w / 2) (halved mode s w j)) q.are
+        (e ∙ ap (λ (i : ℕ). sets mid i (halved_row mode s w y)) (sym (zero-add (y * (w / 2)))));
+  }
 
-pub all_rows : {mode : Shrink} {s : List ℕ} {w at : ℕ} {old new : List ℕ} {y : ℕ} (h : ℕ) → Rows mode s w at old new y → y ≡ h / 2
-    → new ≡ sets old at (shrink2 mode w h s)
-unfolding shrink2
-all_rows {mode} {s} {w} {at} {old} h q e = q.are ∙ ap (λ (n : ℕ). sets old at (joined n (halved_row mode s w))) e
+  pub all_rows : {old new : List ℕ} {y : ℕ} (h : ℕ) → Rows mode s w old new y → y ≡ h / 2 → new ≡ sets old 0 (shrink2 mode w h s)
+  unfolding shrink2
+  all_rows {old} h q e = q.are ∙ ap (λ (n : ℕ). sets old 0 (joined n (halved_row mode s w))) e
 
--- ---- a row's two source rows and its place are inside
-
-pub record Inside (w h y : ℕ) : Type 0 where
-  pub source : (2 * y + 2) * w ≤ w * h
-  pub target : y * (w / 2) + w / 2 ≤ w / 2 * (h / 2)
-
-pub inside : (w h y : ℕ) → y < h / 2 → Inside w h y
-inside w h y l =
-    let two : 2 * y + 2 ≤ h = omega arith in
-    record { source = omega (arith, mul-le-mul_right w two); target = omega (arith, row_inside (w / 2) (h / 2) y l) }
+pub ruleset rows = (no_rows, one_row, all_rows)
 
 -- ---- a buffer of the halved size holds the halved frame and nothing else
 

@@ -1,4 +1,4 @@
--- The search over the nine, over plain values: the code's table, where the search starts, one shift more, and what it has found at a clean
+-- The search over the nine, over plain values: where the search starts, one shift more, and what it has found at a clean
 -- match or after all nine.
 use mathlib.Core.Path.{◌≡◌, refl, sym, ap, ◌∙◌}
 use mathlib.Core.Bool.{Bool, true, false, cond}
@@ -8,7 +8,6 @@ use native.Mathlib.Numerals.{add-one}
 use native.Mathlib.Omega.{arith}
 use borrow.Author.Tests.{lt-ltb, le-ltb, ltb-false, eq-eqb, ne_eqb}
 use lib.Dec.{ltb, eqb}
-use lib.IntN.{ℤ, pos, negsuc}
 use lib.ListN.{length, drop, get_or, get_or-map}
 use lib.Seq.{drop-cons}
 use Rattle.definitions.specs.Geometry.{Shift, origin, offset}
@@ -18,26 +17,12 @@ use Rattle.mtb_align.specs.declared.align.Candidate.{Candidate}
 use Rattle.mtb_align.specs.declared.geometry.Shift as code
 use Rattle.mtb_align.specs.Answers.{shift_in, stepped_in}
 
--- ---- the table
-
-abbrev at : ℤ → ℤ → code.Shift
-at x y = record { x = x; y = y }
-
--- the code's CANDIDATES
-abbrev table : List code.Shift
-table =
-    at (pos 0) (pos 0) ∷ at (negsuc 0) (negsuc 0) ∷ at (negsuc 0) (pos 0) ∷ at (negsuc 0) (pos 1) ∷ at (pos 0) (negsuc 0)
-    ∷ at (pos 0) (pos 1) ∷ at (pos 1) (negsuc 0) ∷ at (pos 1) (pos 0) ∷ at (pos 1) (pos 1) ∷ []
-
-abbrev pub candidate : ℕ → code.Shift
-candidate i = get_or table i (at (pos 0) (pos 0))
-
 -- ---- the search
 
 -- each of the nine around a shift is the sum that the code makes
-nine_at : (around : Shift) (i : ℕ) → get_or (nine around) i (offset around origin) ≡ offset around (shift_in (candidate i))
+nine_at : (around : Shift) (i : ℕ) → get_or (nine around) i (offset around origin) ≡ offset around (get_or candidates i origin)
 unfolding nine
-nine_at around i = get_or-map (offset around) candidates i origin ∙ ap (offset around) (get_or-map shift_in table i (at (pos 0) (pos 0)))
+nine_at around i = get_or-map (offset around) candidates i origin
 
 -- the earliest least of those of a list that cost less than a price, or else the best so far, which has that price
 unfoldable pub below : (Shift → ℕ) → ℕ → Shift → List Shift → Shift
@@ -82,7 +67,7 @@ module _ (cost : Shift → ℕ) (around : Shift) where
 
   -- one more
   module _ {best : Candidate} {i : ℕ} (f : Searched cost around best i) (l : i < 9) (s : code.Shift) (e : ℕ)
-      (p : shift_in s ≡ offset around (shift_in (candidate i))) (q : e ≡ cost (shift_in s)) where
+      (p : shift_in s ≡ offset around (get_or candidates i origin)) (q : e ≡ cost (shift_in s)) where
     abbrev left : List Shift
     left = drop (suc i) (nine around)
 

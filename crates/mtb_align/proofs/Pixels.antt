@@ -2,12 +2,14 @@
 -- bitmap, and each check refuses or is passed.
 use mathlib.Core.Path.{◌≡◌, sym, ap, ◌∙◌}
 use mathlib.Core.List.{List, [], ◌∷◌}
-use Prim.Native.Nat.{ℕ, ◌+◌, ◌*◌, ◌≤◌, ◌<◌}
+use Prim.Native.Nat.{ℕ, ◌+◌, ◌*◌, ◌/◌, ◌≤◌, ◌<◌}
 use native.Mathlib.Omega.{arith}
+use Rattle.std.proofs.Common.{ltb-false, leb-false, eqb-true}
+use Rattle.std.proofs.lemmas.Bool.{not-false}
 use Rattle.definitions.specs.Bitmap.{words_per_row, bitmap_words}
-use Rattle.definitions.specs.Refusals.{Check, Answer, accepted, refused, answer, side_over, wrong_length, pixel_checks}
-use Rattle.laws.specs.bitmaps.Bitmaps.{bitmap_most}
-use Rattle.laws.specs.checks.Checks.{sides_skip, length_stop, length_skip, pixel_stop, pixel_skip, done}
+use Rattle.definitions.specs.Refusals.{Check, Answer, accepted, refused, answer, side_over, wrong_length, pixel_outside, pixel_checks}
+use Rattle.laws.specs.bitmaps.Bitmaps.{bitmap_most, word_inside}
+use Rattle.laws.specs.checks.Checks.{sides_skip, length_stop, length_skip, pixel_stop, pixel_skip, done, passed}
 use Rattle.laws.specs.images.Sizes.{row_inside}
 
 module _ (w h n : ℕ) (e : n ≡ words_per_row w) (s : (w ≤ 8192) × (h ≤ 8192)) where
@@ -42,3 +44,17 @@ module _ (w h n : ℕ) (e : n ≡ words_per_row w) (s : (w ≤ 8192) × (h ≤ 8
       pub pixel_taken : (x y : ℕ) → x < w → y < h → accepted a ≡ answer (pixel_checks w h words x y) a
       unfolding pixel_checks
       pixel_taken x y p q = long_skip _ (pixel_skip a x w _ p (pixel_skip a y h _ q (done a)))
+
+-- past the checks of a pixel: its word lies in the bitmap
+pub word_of_pixel : (w h n words x y : ℕ) → n ≡ words_per_row w → accepted (tt {0}) ≡ answer (pixel_checks w h words x y) tt
+    → (y * n + x / 64 < words) × (words ≤ 1048576)
+unfolding pixel_checks side_over wrong_length pixel_outside
+word_of_pixel w h n words x y e p =
+    let a = passed (tt {0}) _ _ (sym p) in
+    let b = passed (tt {0}) _ _ a.1 in
+    let c = passed (tt {0}) _ _ b.1 in
+    let d = passed (tt {0}) _ _ c.1 in
+    let f = passed (tt {0}) _ _ d.1 in
+    let long : words ≡ h * n = eqb-true words (bitmap_words w h) (not-false _ c.0) ∙ ap (λ (k : ℕ). h * k) (sym e) in
+    let i = inside w h n e (ltb-false 8192 w a.0, ltb-false 8192 h b.0) (x / 64) y (word_inside w x (leb-false w x d.0)) (leb-false h y f.0) in
+    (omega (arith, i, long), omega (arith, i, long))

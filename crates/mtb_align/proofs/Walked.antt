@@ -1,5 +1,5 @@
 -- The walk over a stack as it goes on: the shifts of the frames that are left, put into the list, make the shifts of all.
-use mathlib.Core.Path.{◌≡◌, refl, sym, ap, ◌∙◌, subst}
+use mathlib.Core.Path.{◌≡◌, refl, sym, ap, ◌∙◌}
 use mathlib.Core.List.{List, [], ◌∷◌}
 use Prim.Native.Nat.{ℕ, ◌+◌, ◌-◌, ◌*◌, ◌<◌, ◌≤◌}
 use native.Mathlib.Numerals.{add-one}
@@ -11,7 +11,6 @@ use Rattle.definitions.specs.Build.{build}
 use Rattle.definitions.specs.Geometry.{Shift, origin, offset, listed}
 use Rattle.definitions.specs.Align.{Stack, neighbour, walk, step_of, shift_of, shifts, stack_bytes, stack_words}
 use Rattle.definitions.specs.Refusals.{FreeUpTo}
-use Rattle.laws.specs.checks.ChecksStack.{StackInOrder}
 use Rattle.laws.specs.images.Crop.{listed_length}
 use Rattle.laws.specs.search.Free.{free_then}
 use Rattle.laws.specs.general.Lists.{build_at, build_length}
@@ -19,26 +18,7 @@ use Rattle.laws.specs.search.Walk.{neighbour_among, walk_length, walked, shift_b
 use Rattle.laws.specs.search.StepBounds.{Small, shift_reference}
 use Rattle.laws.specs.search.ShiftLists.{listed_x, listed_y}
 use Rattle.laws.specs.general.Writes.{sets_whole, stored_front}
-use Rattle.mtb_align.specs.declared.walk.Frames.{Frames}
-use Rattle.mtb_align.specs.Stack.{stack_in, Framed, Ready, listed_at, Placed}
-
--- ---- what the walk has
-
--- a stack whose checks pass
-pub ready : (f : Frames) (percentiles samples : List ℕ) {heights shift_list bytes words : ℕ}
-    → StackInOrder (stack_in f percentiles samples) heights (length percentiles) shift_list bytes words → Ready f percentiles samples bytes words
-ready f percentiles samples q = record {
-  framed = record { small = q.small; each = omega (arith, q.each); cut = q.cut; all = omega (arith, q.whole); maps = q.maps };
-  pixels = q.pixels;
-}
-
--- and scratch of the length that it had
-pub still_ready : (f : Frames) (percentiles samples : List ℕ) {bytes bytes' words words' : ℕ} → bytes' ≡ bytes → words' ≡ words
-    → Ready f percentiles samples bytes words → Ready f percentiles samples bytes' words'
-still_ready f percentiles samples p q r = record {
-  framed = subst (Framed f percentiles samples) (sym q) r.framed;
-  pixels = omega (arith, r.pixels);
-}
+use Rattle.mtb_align.specs.Stack.{listed_at, Placed}
 
 -- ---- the shifts of a stack in a list
 

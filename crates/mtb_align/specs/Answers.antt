@@ -1,41 +1,21 @@
 -- The code's answers in document 01's terms: each refusal's number and values, and each answer as accepted or refused.
-use Rattle.std.specs.Prelude.{ℕ, List, [], ◌∷◌, Bool}
+use Rattle.std.specs.Prelude.{ℕ, List, [], ◌∷◌, Option, Some, None, Result, Ok, Err}
 use Rattle.definitions.specs.Shrink as halving
 use Rattle.definitions.specs.Refusals.{Answer, accepted, refused}
 use Rattle.mtb_align.specs.declared.error.Error.{Error}
 use Rattle.mtb_align.specs.declared.error.Error.TheVariants.{Side, Length, Percentile, SizeMismatch, FrameMismatch, NoSuchReference, Frames, Scratch, Padding, Reach, Records, Outside}
 use Rattle.mtb_align.specs.declared.error.Error.TheVariants.{Coordinate}
-use Rattle.mtb_align.specs.declared.bitmap.PixelAnswer.{PixelAnswer}
-use Rattle.mtb_align.specs.declared.bitmap.PixelAnswer.TheVariants as pixels
-use Rattle.mtb_align.specs.declared.bitmap.TotalAnswer.{TotalAnswer}
-use Rattle.mtb_align.specs.declared.bitmap.TotalAnswer.TheVariants as totals
 use Rattle.mtb_align.specs.declared.shrink.Shrink.{Shrink}
 use Rattle.mtb_align.specs.declared.shrink.Shrink.TheVariants as modes
-use Rattle.mtb_align.specs.declared.threshold.CutAnswer.{CutAnswer}
-use Rattle.mtb_align.specs.declared.threshold.CutAnswer.TheVariants as cuts
 use Rattle.definitions.specs.Geometry as geometry
 use Rattle.mtb_align.specs.declared.geometry.Shift.{Shift}
 use Rattle.mtb_align.specs.declared.geometry.Rect.{Rect}
-use Rattle.mtb_align.specs.declared.geometry.SourcePlace.{SourcePlace}
-use Rattle.mtb_align.specs.declared.geometry.SourcePlace.TheVariants as sources
-use Rattle.mtb_align.specs.declared.geometry.ShiftAnswer.{ShiftAnswer}
-use Rattle.mtb_align.specs.declared.geometry.ShiftAnswer.TheVariants as moves
-use Rattle.mtb_align.specs.declared.geometry.CropAnswer.{CropAnswer}
-use Rattle.mtb_align.specs.declared.geometry.CropAnswer.TheVariants as crops
 use Rattle.definitions.specs.Difference as difference
 use Rattle.mtb_align.specs.declared.difference.Counts.{Counts}
-use Rattle.mtb_align.specs.declared.difference.CountsAnswer.{CountsAnswer}
-use Rattle.mtb_align.specs.declared.difference.CountsAnswer.TheVariants as counted
 use Rattle.definitions.specs.Align as search
 use Rattle.mtb_align.specs.declared.levels.LevelPlace.{LevelPlace}
 use Rattle.mtb_align.specs.declared.checks.Need.{Need}
-use Rattle.mtb_align.specs.declared.checks.NeedAnswer.{NeedAnswer}
-use Rattle.mtb_align.specs.declared.checks.NeedAnswer.TheVariants as needs
 use Rattle.mtb_align.specs.declared.align.Step.{Step}
-use Rattle.mtb_align.specs.declared.align.StepAnswer.{StepAnswer}
-use Rattle.mtb_align.specs.declared.align.StepAnswer.TheVariants as steps
-use Rattle.mtb_align.specs.declared.error.Outcome.{Outcome}
-use Rattle.mtb_align.specs.declared.error.Outcome.TheVariants.{Done, Refused}
 
 -- 01's number of a refusal.
 abbrev pub number_of : Error → ℕ
@@ -73,25 +53,10 @@ values_of Coordinate = []
 abbrev pub refusal : {A : Type 0} → Error → Answer A
 refusal e = refused (number_of e) (values_of e)
 
--- A call that only writes.
-abbrev pub outcome : Outcome → Answer (Unit {0})
-outcome Done = accepted tt
-outcome (Refused e) = refusal e
-
--- A cut, 0 to 256.
-abbrev pub cut_answer : CutAnswer → Answer ℕ
-cut_answer (cuts.Cut c) = accepted c
-cut_answer (cuts.Refused e) = refusal e
-
--- A pixel, set or clear.
-abbrev pub pixel_answer : PixelAnswer → Answer Bool
-pixel_answer (pixels.Pixel b) = accepted b
-pixel_answer (pixels.Refused e) = refusal e
-
--- A number of set pixels.
-abbrev pub total_answer : TotalAnswer → Answer ℕ
-total_answer (totals.Total n) = accepted n
-total_answer (totals.Refused e) = refusal e
+-- What a call returns, as an answer: its value as f shows it, or the refusal.
+abbrev pub answered : {T A : Type 0} → (T → A) → Result T Error → Answer A
+answered f (Ok v) = accepted (f v)
+answered f (Err e) = refusal e
 
 -- How a frame is halved.
 abbrev pub mode_of : Shrink → halving.Shrink
@@ -103,31 +68,17 @@ abbrev pub shift_in : Shift → geometry.Shift
 shift_in s = record { x = s.x; y = s.y }
 
 -- A source of a place.
-abbrev pub source_in : SourcePlace → geometry.Source
-source_in (sources.Inside i) = geometry.inside i
-source_in sources.Outside = geometry.outside
+abbrev pub source_in : Option ℕ → geometry.Source
+source_in (Some i) = geometry.inside i
+source_in None = geometry.outside
 
 -- A region.
 abbrev pub rect_in : Rect → geometry.Rect
 rect_in r = record { x = r.x; y = r.y; width = r.width; height = r.height }
 
--- A shift, or refusal 12.
-abbrev pub shift_answer : ShiftAnswer → Answer geometry.Shift
-shift_answer (moves.Moved s) = accepted (shift_in s)
-shift_answer (moves.Refused e) = refusal e
-
--- A crop.
-abbrev pub crop_answer : CropAnswer → Answer geometry.Rect
-crop_answer (crops.Crop r) = accepted (rect_in r)
-crop_answer (crops.Refused e) = refusal e
-
 -- Both counts.
 abbrev pub counts_in : Counts → difference.Counts
 counts_in c = record { disagreeing = c.disagreeing; compared = c.compared }
-
-abbrev pub counts_answer : CountsAnswer → Answer difference.Counts
-counts_answer (counted.Counted c) = accepted (counts_in c)
-counts_answer (counted.Refused e) = refusal e
 
 -- Where a level stands.
 abbrev pub level_place_in : LevelPlace → halving.LevelPlace
@@ -137,14 +88,6 @@ level_place_in p = record { in_scratch = p.in_scratch; start = p.start; samples 
 abbrev pub need_in : Need → search.Need
 need_in n = record { bytes = n.bytes; words = n.words }
 
-abbrev pub need_answer : NeedAnswer → Answer search.Need
-need_answer (needs.Needed n) = accepted (need_in n)
-need_answer (needs.Refused e) = refusal e
-
 -- A step with the number of comparisons made.
 abbrev pub stepped_in : Step → search.Stepped
 stepped_in s = record { shift = shift_in s.shift; comparisons = s.comparisons }
-
-abbrev pub step_answer : StepAnswer → Answer search.Stepped
-step_answer (steps.Stepped s) = accepted (stepped_in s)
-step_answer (steps.Refused e) = refusal e

@@ -1,36 +1,21 @@
--- The stack in hand, what the walk over it and the survey of its frames need, and its shifts in a list.
+-- The stack in hand, the bitmaps of two of its frames, and its shifts in a list.
 use Rattle.std.specs.Prelude.{ℕ, ◌+◌, ◌*◌, ◌≤◌, ◌≡◌, List, ℤ, pos, length, get_or, take}
 use Rattle.definitions.specs.Geometry.{Shift, listed}
-use Rattle.definitions.specs.Align.{Stack, exposure, shifts, stack_bytes, stack_words}
-use Rattle.laws.specs.search.StepBounds.{Small}
-use Rattle.mtb_align.specs.declared.walk.Frames.{Frames}
+use Rattle.definitions.specs.Align.{Stack, exposure, shifts}
+use Rattle.mtb_align.specs.declared.stack.Stack as code
 use Rattle.mtb_align.specs.Search.{options_in, four_of}
 
 -- The frames with their percentiles and samples.
-abbrev pub stack_in : Frames → List ℕ → List ℕ → Stack
-stack_in f percentiles samples = record {
-  width = f.width;
-  height = f.height;
-  frames = f.count;
-  samples = samples;
-  reference = f.reference;
-  percentile = λ (k : ℕ). get_or percentiles k 0;
-  options = options_in f.options;
+abbrev pub stack_in : code.Stack → Stack
+stack_in s = record {
+  width = s.width;
+  height = s.height;
+  frames = length s.percentiles.now;
+  samples = s.samples.now;
+  reference = s.reference;
+  percentile = λ (k : ℕ). get_or s.percentiles.now k 0;
+  options = options_in s.options;
 }
-
--- The survey of the frames has what it needs: a stack within 01's limits, a percentile within them for each frame, all samples, and
--- room for four bitmaps.
-pub record Framed (f : Frames) (percentiles samples : List ℕ) (words : ℕ) : Type 0 where
-  pub small : Small (stack_in f percentiles samples)
-  pub each : f.count ≤ length percentiles
-  pub cut : (k : ℕ) → get_or percentiles k 0 ≤ 100
-  pub all : f.count * (f.width * f.height) ≤ length samples
-  pub maps : stack_words (stack_in f percentiles samples) ≤ words
-
--- So has the walk: besides, room for two pyramids.
-pub record Ready (f : Frames) (percentiles samples : List ℕ) (bytes words : ℕ) : Type 0 where
-  pub framed : Framed f percentiles samples words
-  pub pixels : stack_bytes (stack_in f percentiles samples) ≤ bytes
 
 -- The bitmaps of frames j and k.
 abbrev pub four_in : Stack → ℕ → ℕ → List ℕ

@@ -3,16 +3,16 @@ use Rattle.std.specs.Prelude.{ℕ, ◌+◌, ◌-◌, ◌*◌, ◌/◌, ◌≤◌
 use Rattle.definitions.specs.Geometry as geometry
 use Rattle.definitions.specs.Difference.{Counts}
 use Rattle.definitions.specs.Align.{Stack}
-use Rattle.definitions.specs.Refusals.{Answer, accepted}
-use Rattle.definitions.specs.Report.{Terms, Question, verdicts, records_needed, records, records_bytes}
+use Rattle.definitions.specs.Report.{Terms, Question, Record, verdicts, records_needed, records, records_bytes}
 use Rattle.laws.specs.bitmaps.Bands.{band_disagreeing}
 use Rattle.mtb_align.specs.declared.report.Terms as code
-use Rattle.mtb_align.specs.declared.survey.Question as asked
+use Rattle.mtb_align.specs.declared.question.Question as asked
 use Rattle.mtb_align.specs.declared.report.Summary.{Summary}
-use Rattle.mtb_align.specs.declared.report.ReportAnswer.{ReportAnswer}
-use Rattle.mtb_align.specs.declared.report.ReportAnswer.TheVariants as reports
-use Rattle.mtb_align.specs.Answers.{refusal, rect_in, shift_in}
-use Rattle.mtb_align.specs.Search.{map_at}
+use Rattle.mtb_align.specs.declared.entry.Entry.{Entry}
+use Rattle.mtb_align.specs.declared.rivals.Verdict.{Verdict}
+use Rattle.mtb_align.specs.declared.rivals.Verdict.TheVariants.{Reference, Weak, Alone, Contested}
+use Rattle.mtb_align.specs.Answers.{rect_in, shift_in, counts_in}
+use Rattle.mtb_align.specs.Layout.{map_at}
 
 -- ---- the answer
 
@@ -28,15 +28,24 @@ pub record Reported : Type 0 where
 abbrev pub reported_in : Summary → Reported
 reported_in s = record { crop = rect_in s.crop; records = s.records }
 
-abbrev pub report_answer : ReportAnswer → Answer Reported
-report_answer (reports.Reported s) = accepted (reported_in s)
-report_answer (reports.Refused e) = refusal e
+-- ---- the verdicts
+
+-- The byte of a verdict.
+abbrev pub verdict_in : Verdict → ℕ
+verdict_in Reference = 0
+verdict_in Weak = 1
+verdict_in Alone = 2
+verdict_in Contested = 3
 
 -- ---- the survey
 
 -- What a survey of the code asks.
 abbrev pub question_in : asked.Question → Question
 question_in u = record { centre = shift_in u.centre; reach = u.reach; floor = u.floor; limit = u.limit }
+
+-- What a record of the code says.
+abbrev pub record_in : Entry → Record
+record_in e = record { frame = e.frame; shift = shift_in e.shift; counts = counts_in e.counts }
 
 -- What the report asks around a step: a rival disagrees in at most m pixels more than the step.
 abbrev pub question_around : (geometry.Shift → Counts) → geometry.Shift → Terms → Question

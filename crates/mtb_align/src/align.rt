@@ -1,92 +1,101 @@
 // The search over the nine, the step of two frames, and the stack. What the original has beside these in align.rs stands in levels.rt
 // (levels and pyramids) and walk.rt (the walk over a stack); the checks of all calls are in checks.rt.
-ghost use Rattle.std.specs.Prelude.{◌≡◌, cond, ◌-◌, ◌≤◌, ltb, length};
-ghost use Rattle.definitions.specs.Geometry.{offset, doubled};
-ghost use Rattle.definitions.specs.Align.{refined, stepped_at, step_bytes, step_words};
+ghost use Rattle.std.specs.Prelude.{◌≡◌, cond, ◌-◌, ◌≤◌, ltb, length, ◌<◌, get_or};
+ghost use Rattle.definitions.specs.Geometry.{offset, doubled, origin};
+ghost use Rattle.definitions.specs.Align.{candidates, refined, stepped_at, step_bytes, step_words};
 ghost use Rattle.definitions.specs.Refusals.{FreeUpTo};
 ghost use Rattle.laws.specs.search.StepBounds.{Within};
-ghost use Rattle.mtb_align.specs.Answers.{outcome, shift_in, stepped_in, step_answer};
+ghost use Rattle.mtb_align.specs.Answers.{answered, shift_in, stepped_in};
 ghost use Rattle.mtb_align.specs.Asked.{itself, StepPromise, StackPromise};
 ghost use Rattle.mtb_align.specs.declared.shrink.Shrink.TheVariants.{Average, Subsample};
 ghost use Rattle.mtb_align.specs.Levelled.{Levelled};
-ghost use Rattle.mtb_align.specs.Search.{TwoPairs, cost_in, options_in, InHand, costs_in, stepped_of};
+ghost use Rattle.mtb_align.specs.Packed.{cost_of};
+ghost use Rattle.mtb_align.specs.Search.{options_in, costs_in, stepped_of};
 
 use super::bitmap::words_per_row;
 use super::checks::{stack_fits, step_fits};
-use super::error::{Error, Outcome};
-use super::geometry::{Shift, ShiftAnswer};
+use super::error::Error;
+use super::geometry::Shift;
 use super::levels::{fill, halved_samples, shrinks, side_at};
-use super::pairs::{TwoFrames, counts_at, pack_both};
+use super::packed::Packed;
+use super::pair::Pair;
+use super::pairs::pack_both;
 use super::shrink::Shrink;
-use super::walk::{Frames, walk};
+use super::sides::Sides;
+use super::stack::Stack;
+use super::walk::walk;
 
-// How the search is run, for all frames alike.
-#[derive(Clone, Copy)]
+/// How the search is run, for all frames alike.
+#[derive(Clone, Copy, Debug, PartialEq, Eq)]
 pub struct Options {
+    /// A frame is halved at most `bits` - 1 times, and not at all with 0.
     pub bits: u32,
+    /// A sample is compared if it lies further than this from its frame's cut.
     pub tolerance: u8,
+    /// How a level is halved.
     pub shrink: Shrink,
 }
 
-// A step, and how many comparisons it took.
-#[derive(Clone, Copy)]
+/// A step, in pixels of the frames, and how many comparisons it took.
+#[derive(Clone, Copy, Debug, PartialEq, Eq)]
 pub struct Step {
     pub shift: Shift,
     pub comparisons: u64,
 }
 
-impl Options {
-    // Six bits are Ward's figure, for frames of three megapixels.
-    pub fn default() -> Options
-        ensures { (result.bits ≡ 6) × (result.tolerance ≡ 4) × (result.shrink ≡ Average) }
-    {
+impl Default for Options {
+    ghost is_default = { λ o. (o.bits ≡ 6) × (o.tolerance ≡ 4) × (o.shrink ≡ Average) };
+
+    /// Six bits, Ward's figure for frames of three megapixels, a tolerance of 4, and the mean of each block.
+    fn default() -> Options {
         Options {
             bits: 6,
             tolerance: 4,
             shrink: Shrink::Average,
         }
     }
+}
 
-    // The conventions that OpenCV's `AlignMTB` uses, for comparing against it.
+impl Options {
+    /// The conventions that OpenCV's `AlignMTB` uses, for comparing against it: the default's with the upper left sample of each block.
     pub fn opencv() -> Options
         ensures { (result.bits ≡ 6) × (result.tolerance ≡ 4) × (result.shrink ≡ Subsample) }
     {
         Options {
-            bits: 6,
-            tolerance: 4,
             shrink: Shrink::Subsample,
+            ..Self::default()
         }
     }
 }
 
-#[derive(Clone, Copy)]
-pub enum StepAnswer {
-    Stepped(Step),
-    Refused(Error),
-}
-
 // Ward's nine, centre first, so that a tie stays at the centre.
-const CANDIDATES: [Shift; 9] = [
-    Shift { x: 0, y: 0 },
-    Shift { x: -1, y: -1 },
-    Shift { x: -1, y: 0 },
-    Shift { x: -1, y: 1 },
-    Shift { x: 0, y: -1 },
-    Shift { x: 0, y: 1 },
-    Shift { x: 1, y: -1 },
-    Shift { x: 1, y: 0 },
-    Shift { x: 1, y: 1 },
+const CANDIDATES: [(i32, i32); 9] = [
+    (0, 0),
+    (-1, -1),
+    (-1, 0),
+    (-1, 1),
+    (0, -1),
+    (0, 1),
+    (1, -1),
+    (1, 0),
+    (1, 1),
 ];
 
-// The sum of two shifts that are far from the limits of i32.
+// Offset i of the nine.
+fn offset_of(i: usize) -> Shift
+    requires { i < 9 }
+    ensures { shift_in result ≡ get_or candidates i origin }
+{
+    let (x, y) = CANDIDATES[i];
+    Shift { x, y }
+}
+
+// The sum of two shifts that are far from the limits of i32. `Within 1048576` is no type: the sums are of other shifts at each call.
 pub(crate) fn summed(a: Shift, b: Shift) -> Shift
     requires { Within 1048576 (shift_in a) × Within 1048576 (shift_in b) }
     ensures { shift_in result ≡ offset (shift_in a) (shift_in b) }
 {
-    let ShiftAnswer::Moved(sum) = a.offset(b.x, b.y) else {
-        return a;
-    };
-    sum
+    a.offset(b.x, b.y).unwrap()
 }
 
 // Twice a shift that is far from them.
@@ -94,10 +103,7 @@ fn twice(s: Shift) -> Shift
     requires { Within 1048576 (shift_in s) }
     ensures { shift_in result ≡ doubled (shift_in s) }
 {
-    let ShiftAnswer::Moved(sum) = s.doubled() else {
-        return s;
-    };
-    sum
+    s.doubled().unwrap()
 }
 
 // A shift with its disagreement.
@@ -119,18 +125,20 @@ fn better(best: Candidate, shift: Shift, error: u64) -> Candidate
 
 // The best of the nine offsets within a pixel of `around`, over two pairs of bitmaps, and how many were tried: no more after a clean
 // match, which disagrees in no pixel, since none can beat it.
-fn refine(words: &[u64], width: usize, height: usize, around: Shift) -> Step
-    requires { TwoPairs words.now width height × Within 65536 (shift_in around) }
-    ensures { stepped_in result ≡ refined (cost_in words.now width height) (shift_in around) }
+// `Within 65536` stays a requires: a shift with its bound as a type would be built at each call and taken apart at once.
+fn refine(packed: &Packed<'_>, around: Shift) -> Step
+    requires { Within 65536 (shift_in around) }
+    ensures { stepped_in result ≡ refined (cost_of packed.now) (shift_in around) }
 {
     let mut best = Candidate {
         shift: around,
-        error: 0xffff_ffff_ffff_ffff, // more than any count
+        error: u64::MAX, // more than any count; no Option: from a price that none reaches the clean match is tested once, as in the original
     };
+    // Indexed in order, as 01 has the nine; the count is 01's counter in the result.
     let mut made: u64 = 0;
     for i in 0..9 {
-        let candidate = summed(around, CANDIDATES[i]);
-        let counts = counts_at(words, width, height, candidate);
+        let candidate = summed(around, offset_of(i));
+        let counts = packed.counts_at(candidate);
         best = better(best, candidate, counts.disagreeing);
         made += 1;
         if counts.disagreeing == 0 {
@@ -145,91 +153,77 @@ fn refine(words: &[u64], width: usize, height: usize, around: Shift) -> Step
 }
 
 // One level: both frames cut and packed, and the best of the nine around a shift.
-fn level_step(
-    reference: &[u8],
-    target: &[u8],
-    frames: TwoFrames,
-    words: &mut [u64],
-    around: Shift,
-) -> Step
-    requires { InHand frames (length reference.now) (length target.now) (length words.old) × Within 65536 (shift_in around) }
-    ensures result_value { stepped_in result ≡ refined (costs_in frames reference.now target.now 0) (shift_in around) }
-    ensures free_up_to { FreeUpTo (step_words frames.width frames.height) words.old words.new }
+// Here and below `words` and `bytes` are lent to be written: their room stays a requires, since a struct of `&mut` owes a clause on its loan in each contract.
+fn level_step(pair: &Pair<'_>, words: &mut [u64], around: Shift) -> Step
+    requires { (step_words pair.now.width pair.now.height ≤ length words.old) × Within 65536 (shift_in around) }
+    ensures result_value { stepped_in result ≡ refined (costs_in pair.now 0) (shift_in around) }
+    ensures free_up_to { FreeUpTo (step_words pair.now.width pair.now.height) words.old words.new }
 {
-    let width = frames.width;
-    let height = frames.height;
+    let width = pair.width;
+    let height = pair.height;
     let n = height * words_per_row(width);
-    pack_both(reference, target, frames, words);
-    refine(&words[0..4 * n], width, height, around)
+    pack_both(pair, words);
+    let packed = Packed {
+        words: &words[0..4 * n],
+        width,
+        height,
+    };
+    refine(&packed, around)
 }
 
 // The best of the nine around a shift at a level of a walk, whose two images are the frames or stand in `bytes`.
 fn step_around(
-    reference: &[u8],
-    target: &[u8],
-    frames: TwoFrames,
+    pair: &Pair<'_>,
     bytes: &[u8],
     words: &mut [u64],
     level: usize,
     last: usize,
     around: Shift,
 ) -> Step
-    requires levelled { Levelled frames last reference.now target.now bytes.now (length words.old) }
+    requires levelled { Levelled pair.now last bytes.now (length words.old) }
     requires level_le_last { (level ≤ last) × Within 65536 (shift_in around) }
-    ensures result_value { stepped_in result ≡ refined (costs_in frames reference.now target.now level) (shift_in around) }
-    ensures free_up_to { FreeUpTo (step_words frames.width frames.height) words.old words.new }
+    ensures result_value { stepped_in result ≡ refined (costs_in pair.now level) (shift_in around) }
+    ensures free_up_to { FreeUpTo (step_words pair.now.width pair.now.height) words.old words.new }
 {
     if level == 0 {
-        return level_step(reference, target, frames, words, around);
+        return level_step(pair, words, around);
     }
-    let width = frames.width;
-    let height = frames.height;
-    let start = halved_samples(width, height, level - 1);
-    let end = halved_samples(width, height, level);
-    let half = halved_samples(width, height, last);
+    let width = pair.width;
+    let height = pair.height;
+    let sides = Sides { width, height };
+    let start = halved_samples(sides, level - 1);
+    let end = halved_samples(sides, level);
+    let half = halved_samples(sides, last);
     let behind = half + start;
     let behind_end = half + end;
-    let options = frames.options;
-    let halved = TwoFrames {
+    let halved = Pair {
+        reference: &bytes[start..end],
+        target: &bytes[behind..behind_end],
         width: side_at(width, level),
         height: side_at(height, level),
-        first: frames.first,
-        second: frames.second,
-        options,
+        first: pair.first,
+        second: pair.second,
+        options: pair.options,
     };
-    level_step(
-        &bytes[start..end],
-        &bytes[behind..behind_end],
-        halved,
-        words,
-        around,
-    )
+    level_step(&halved, words, around)
 }
 
 // The step at a level, and the comparisons made from the last level to it: the best of the nine around twice the step at the next
 // coarser level. The reference's halved levels stand in `bytes` from its start, the target's behind them.
-fn step_at(
-    reference: &[u8],
-    target: &[u8],
-    frames: TwoFrames,
-    bytes: &[u8],
-    words: &mut [u64],
-    level: usize,
-    last: usize,
-) -> Step
-    requires levelled { Levelled frames last reference.now target.now bytes.now (length words.old) }
+fn step_at(pair: &Pair<'_>, bytes: &[u8], words: &mut [u64], level: usize, last: usize) -> Step
+    requires levelled { Levelled pair.now last bytes.now (length words.old) }
     requires level_le_last { level ≤ last }
-    ensures result_value { stepped_in result ≡ stepped_at (costs_in frames reference.now target.now) level (last - level) }
-    ensures free_up_to { FreeUpTo (step_words frames.width frames.height) words.old words.new }
+    ensures result_value { stepped_in result ≡ stepped_at (costs_in pair.now) level (last - level) }
+    ensures free_up_to { FreeUpTo (step_words pair.now.width pair.now.height) words.old words.new }
 {
     if level == last {
         let around = Shift::ZERO;
-        return step_around(reference, target, frames, bytes, words, level, last, around);
+        return step_around(pair, bytes, words, level, last, around);
     }
-    let coarser = step_at(reference, target, frames, bytes, words, level + 1, last);
+    let coarser = step_at(pair, bytes, words, level + 1, last);
     let coarser_shift = coarser.shift;
     let around = twice(coarser_shift);
-    let found = step_around(reference, target, frames, bytes, words, level, last, around);
+    let found = step_around(pair, bytes, words, level, last, around);
     let best = found.shift;
     Step {
         shift: best,
@@ -238,31 +232,31 @@ fn step_at(
 }
 
 // The step of a target against a reference, in scratch that is long enough.
-pub(crate) fn step_of(
-    reference: &[u8],
-    target: &[u8],
-    frames: TwoFrames,
-    bytes: &mut [u8],
-    words: &mut [u64],
-) -> Step
-    requires { InHand frames (length reference.now) (length target.now) (length words.old)
-        × (step_bytes frames.width frames.height frames.options.bits ≤ length bytes.old) }
-    ensures result_value { stepped_in result ≡ stepped_of frames reference.now target.now }
-    ensures free_up_to { FreeUpTo (step_bytes frames.width frames.height frames.options.bits) bytes.old bytes.new }
-    ensures free_up_to_2 { FreeUpTo (step_words frames.width frames.height) words.old words.new }
+pub(crate) fn step_of(pair: &Pair<'_>, bytes: &mut [u8], words: &mut [u64]) -> Step
+    requires { (step_bytes pair.now.width pair.now.height pair.now.options.bits ≤ length bytes.old)
+        × (step_words pair.now.width pair.now.height ≤ length words.old) }
+    ensures result_value { stepped_in result ≡ stepped_of pair.now }
+    ensures free_up_to { FreeUpTo (step_bytes pair.now.width pair.now.height pair.now.options.bits) bytes.old bytes.new }
+    ensures free_up_to_2 { FreeUpTo (step_words pair.now.width pair.now.height) words.old words.new }
 {
-    let width = frames.width;
-    let height = frames.height;
-    let options = frames.options;
+    let width = pair.width;
+    let height = pair.height;
+    let options = pair.options;
     let shrink = options.shrink;
-    let last = shrinks(width, height, options.bits);
-    let half = halved_samples(width, height, last);
-    fill(reference, width, height, last, shrink, bytes, 0);
-    fill(target, width, height, last, shrink, bytes, half);
-    step_at(reference, target, frames, bytes, words, 0, last)
+    let sides = Sides { width, height };
+    let last = shrinks(sides, options.bits);
+    let half = halved_samples(sides, last);
+    let reference = pair.reference_frame();
+    let target = pair.target_frame();
+    fill(&reference, last, shrink, bytes, 0);
+    fill(&target, last, shrink, bytes, half);
+    step_at(pair, bytes, words, 0, last)
 }
 
-// How far the target has to move to sit on the reference, each cut at its own percentile. Refused: 1, 3, 4, 2, 7.
+/// How far the target has to move to sit on the reference, each cut at its own percentile, and how many comparisons that took. Frames
+/// are gray, row by row, a byte for each pixel; `bytes` and `words` are scratch, as much as `scratch_needed` says. Refused, with the
+/// scratch as it was: `Side` if a side is over 8,192, `Percentile` if one is over 100, `SizeMismatch` with both sizes, `Length` if a
+/// frame has not width times height bytes, `Scratch` if a scratch is too short.
 pub fn shift(
     reference: &[u8],
     width: usize,
@@ -275,7 +269,7 @@ pub fn shift(
     options: Options,
     bytes: &mut [u8],
     words: &mut [u64],
-) -> StepAnswer
+) -> Result<Step, Error>
     ensures { StepPromise itself
         (record {
           width = width;
@@ -290,11 +284,11 @@ pub fn shift(
           bytes = length bytes.old;
           words = length words.old;
         })
-        (step_answer result)
+        (answered stepped_in result)
         (record { bytes = bytes.old; words = words.old })
         (record { bytes = bytes.new; words = words.new }) }
 {
-    match step_fits(
+    step_fits(
         width,
         height,
         percentile,
@@ -306,25 +300,27 @@ pub fn shift(
         target.len(),
         bytes.len(),
         words.len(),
-    ) {
-        Outcome::Done => {
-            let frames = TwoFrames {
-                width,
-                height,
-                first: percentile,
-                second: target_percentile,
-                options,
-            };
-            StepAnswer::Stepped(step_of(reference, target, frames, bytes, words))
-        }
-        Outcome::Refused(error) => StepAnswer::Refused(error),
-    }
+    )?;
+    let pair = Pair {
+        reference,
+        target,
+        width,
+        height,
+        first: percentile,
+        second: target_percentile,
+        options,
+    };
+    Ok(step_of(&pair, bytes, words))
 }
 
 // ---- the stack
 
-// How far each frame has to move to sit on the reference, measured between neighbours, each cut at its own percentile, and added up; x
-// then y for each frame. Refused: 6, 2, 1, 3, 5, 4, 2, 7.
+/// How far each frame has to move to sit on the reference, measured between neighbours, each cut at its own percentile, and added up:
+/// `shifts` takes x then y for each frame. The frames stand one behind another in `samples`; `bytes` and `words` are scratch, as much
+/// as `scratch_needed` says, and none for one frame. Refused, with all that is lent as it was: `Frames` if there are more than 16
+/// widths or heights, `Length` if there are not as many heights and percentiles as widths, `Side` if a side is over 8,192,
+/// `Percentile` if one is over 100, `NoSuchReference` with the reference and the number of frames, `FrameMismatch` with both sizes and
+/// the frame that is not of its neighbour's, `Length` for `samples` and `shifts`, `Scratch` if a scratch is too short.
 pub fn align_stack(
     widths: &[usize],
     heights: &[usize],
@@ -335,7 +331,7 @@ pub fn align_stack(
     shifts: &mut [i32],
     bytes: &mut [u8],
     words: &mut [u64],
-) -> Outcome
+) -> Result<(), Error>
     ensures { StackPromise itself
         (record {
           widths = widths.now;
@@ -348,11 +344,11 @@ pub fn align_stack(
           bytes = length bytes.old;
           words = length words.old;
         })
-        (outcome result)
+        (answered (λ done. done) result)
         (record { shifts = shifts.old; bytes = bytes.old; words = words.old })
         (record { shifts = shifts.new; bytes = bytes.new; words = words.new }) }
 {
-    match stack_fits(
+    stack_fits(
         widths,
         heights,
         percentiles,
@@ -362,18 +358,15 @@ pub fn align_stack(
         shifts.len(),
         bytes.len(),
         words.len(),
-    ) {
-        Outcome::Done => {
-            let frames = Frames {
-                width: widths[0],
-                height: heights[0],
-                count: widths.len(),
-                reference,
-                options,
-            };
-            walk(percentiles, samples, frames, shifts, bytes, words);
-            Outcome::Done
-        }
-        Outcome::Refused(error) => Outcome::Refused(error),
-    }
+    )?;
+    let stack = Stack {
+        percentiles,
+        samples,
+        width: widths[0],
+        height: heights[0],
+        reference,
+        options,
+    };
+    walk(&stack, shifts, bytes, words);
+    Ok(())
 }

@@ -1,39 +1,40 @@
-// Why a call is refused, and what a call that only writes answers.
+// Why a call is refused.
 ghost use Rattle.std.specs.Prelude.{◌≡◌};
 ghost use Rattle.definitions.specs.Refusals.{either_over};
 ghost use Rattle.mtb_align.specs.Answers.{number_of};
 
-// A frame's sides.
-#[derive(Clone, Copy)]
+/// A frame's sides.
+#[derive(Clone, Copy, Debug, PartialEq, Eq)]
 pub struct Size {
     pub width: usize,
     pub height: usize,
 }
 
-// One case for each of document 01's numbers, with the values that it asks for; 4 has a case for two frames and one for a stack.
-#[derive(Clone, Copy)]
+/// Why a call is refused: a case for each number, with the values that come with it; 4 has a case for two frames and one for a stack.
+#[derive(Clone, Copy, Debug, PartialEq, Eq)]
 pub enum Error {
     Side,
     Length,
     Percentile,
-    // The reference's size, then the target's.
+    /// The reference's size, then the target's.
     SizeMismatch(Size, Size),
-    // The neighbour's size, then that of the frame whose number follows.
+    /// The neighbour's size, then that of the frame whose number follows.
     FrameMismatch(Size, Size, usize),
-    // The reference, and how many frames there are.
+    /// The reference, and how many frames there are.
     NoSuchReference(usize, usize),
     Frames,
     Scratch,
     Padding,
     Reach,
-    // How many records are needed.
+    /// How many records are needed.
     Records(usize),
     Outside,
     Coordinate,
 }
 
 impl Error {
-    // Document 01's number.
+    // A match and no discriminants, since cases carry values and two are 4.
+    /// Its number, which C's callers are given.
     pub fn number(self) -> u32
         ensures { result ≡ number_of self }
     {
@@ -55,12 +56,6 @@ impl Error {
     }
 }
 
-#[derive(Clone, Copy)]
-pub enum Outcome {
-    Done,
-    Refused(Error),
-}
-
 // What no side of a frame exceeds.
 pub(crate) const LONGEST_SIDE: usize = 8192;
 
@@ -68,11 +63,9 @@ pub(crate) const LONGEST_SIDE: usize = 8192;
 pub(crate) const HIGHEST_PERCENTILE: u8 = 100;
 
 // A side is over the limit.
+#[tactic(auto, using(std::proofs::lemmas::Bool::Decides::nat_tests), unfolding(definitions::specs::Refusals::either_over))]
 pub(crate) fn side_over(width: usize, height: usize) -> bool
     ensures { result ≡ either_over width height }
 {
-    if width > LONGEST_SIDE {
-        return true;
-    }
-    height > LONGEST_SIDE
+    width > LONGEST_SIDE || height > LONGEST_SIDE
 }

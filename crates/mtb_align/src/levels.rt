@@ -4,81 +4,72 @@ ghost use Rattle.std.proofs.lemmas.List.Edits.{sets};
 ghost use Rattle.definitions.specs.Shrink.{side_at, halved_samples, pyramid, level_part, nowhere, place_of};
 ghost use Rattle.definitions.specs.Align.{levels};
 ghost use Rattle.definitions.specs.Refusals.{answer, after, pyramid_checks};
-ghost use Rattle.mtb_align.specs.Answers.{outcome, mode_of, level_place_in};
+ghost use Rattle.mtb_align.specs.Answers.{answered, mode_of, level_place_in};
 
 use super::checks::pyramid_fits;
-use super::error::Outcome;
-use super::numbers::{ilog2, max, min, saturating_sub};
-use super::shrink::{Shrink, halve, halve_within};
+use super::error::Error;
+use super::frame::Gray;
+use super::numbers::ilog2;
+use super::shrink::{Shrink, halve};
+use super::sides::Sides;
 
 // How many times a frame is halved.
-pub(crate) fn shrinks(width: usize, height: usize, bits: u32) -> usize
-    requires { (width ≤ 8192) × (height ≤ 8192) }
-    ensures { result ≡ levels width height bits }
+pub(crate) fn shrinks(sides: Sides, bits: u32) -> usize
+    ensures { result ≡ levels sides.width sides.height bits }
 {
-    if width == 0 {
+    if sides.width == 0 || sides.height == 0 {
         return 0;
     }
-    if height == 0 {
-        return 0;
-    }
-    let longest = saturating_sub(ilog2(max(width, height)), 1);
-    let shortest = ilog2(min(width, height));
-    min(min(saturating_sub(bits as usize, 1), longest), shortest)
+    let longest = ilog2(sides.width.max(sides.height)).saturating_sub(1);
+    let shortest = ilog2(sides.width.min(sides.height));
+    (bits as usize).saturating_sub(1).min(longest).min(shortest)
 }
 
 // The samples of the halved levels 1 to `count`.
-pub(crate) fn halved_samples(width: usize, height: usize, count: usize) -> usize
-    requires { (width ≤ 8192) × (height ≤ 8192) × (count ≤ 12) }
-    ensures { result ≡ halved_samples width height count }
+pub(crate) fn halved_samples(sides: Sides, count: usize) -> usize
+    requires { count ≤ 12 }
+    ensures { result ≡ halved_samples sides.width sides.height count }
 {
-    let mut w = width;
-    let mut h = height;
+    // Halved as it goes: a shift for each level took 15 ns more at each pyramid, a tenth where the frame is small.
+    let mut w = sides.width;
+    let mut h = sides.height;
     let mut total: usize = 0;
-    let mut k: usize = 0;
-    while k < count {
-        w = w / 2;
-        h = h / 2;
+    for _k in 0..count {
+        w /= 2;
+        h /= 2;
         total += w * h;
-        k += 1;
     }
     total
 }
 
 // The halved levels 1 to `count`, one after another, from `at` on.
-pub(crate) fn fill(
-    samples: &[u8],
-    width: usize,
-    height: usize,
-    count: usize,
-    shrink: Shrink,
-    scratch: &mut [u8],
-    at: usize,
-)
-    requires { (width ≤ 8192) × (height ≤ 8192) × (count ≤ 12)
-        × (length samples.now ≡ width * height) × (at + halved_samples width height count ≤ length scratch.old) }
-    ensures { scratch.new ≡ sets scratch.old at (pyramid (mode_of shrink) width height samples.now count) }
+pub(crate) fn fill(frame: &Gray<'_>, count: usize, shrink: Shrink, scratch: &mut [u8], at: usize)
+    requires { (count ≤ 12) × (at + halved_samples frame.now.width frame.now.height count ≤ length scratch.old) }
+    ensures { scratch.new ≡ sets scratch.old at (pyramid (mode_of shrink) frame.now.width frame.now.height frame.now.samples.now count) }
 {
     if count == 0 {
         return;
     }
-    halve(samples, width, height, shrink, scratch, at);
-    // The last level that is written: its sides, and where it starts.
-    let mut w = width / 2;
-    let mut h = height / 2;
+    halve(frame, shrink, &mut scratch[at..]);
+    // Where the last level that is written starts: the next one is made of it, right behind it.
     let mut from = at;
-    let mut k: usize = 1;
-    while k < count {
-        let next = from + w * h;
-        halve_within(scratch, from, w, h, shrink, next);
-        w = w / 2;
-        h = h / 2;
+    for k in 1..count {
+        // By shifts here: halved as the loop goes, small subsampled pyramids took a tenth more.
+        let width = side_at(frame.width, k);
+        let height = side_at(frame.height, k);
+        let next = from + width * height;
+        let (before, rest) = scratch.split_at_mut(next);
+        let level = Gray {
+            samples: &before[from..],
+            width,
+            height,
+        };
+        halve(&level, shrink, rest);
         from = next;
-        k += 1;
     }
 }
 
-// The halved levels of a frame, one after another from the scratch's start; bits gives how many. Refused: 1, 2, 7.
+/// The halved levels of a frame, one after another from the scratch's start; bits gives how many. Refused: `Side`, `Length`, `Scratch`.
 pub fn pyramid(
     samples: &[u8],
     width: usize,
@@ -86,32 +77,35 @@ pub fn pyramid(
     bits: u32,
     shrink: Shrink,
     scratch: &mut [u8],
-) -> Outcome
-    ensures answer { outcome result ≡ answer (pyramid_checks width height (length samples.now) bits (length scratch.old)) tt }
+) -> Result<(), Error>
+    ensures answer { answered (λ done. done) result ≡ answer (pyramid_checks width height (length samples.now) bits (length scratch.old)) tt }
     ensures scratch { scratch.new ≡ after (pyramid_checks width height (length samples.now) bits (length scratch.old))
         (pyramid (mode_of shrink) width height samples.now (levels width height bits)
         ++ drop (halved_samples width height (levels width height bits)) scratch.old)
         scratch.old }
 {
-    match pyramid_fits(width, height, samples.len(), bits, scratch.len()) {
-        Outcome::Done => {
-            let count = shrinks(width, height, bits);
-            fill(samples, width, height, count, shrink, scratch, 0);
-            Outcome::Done
-        }
-        Outcome::Refused(error) => Outcome::Refused(error),
-    }
+    pyramid_fits(width, height, samples.len(), bits, scratch.len())?;
+    let sides = Sides { width, height };
+    let count = shrinks(sides, bits);
+    let frame = Gray {
+        samples,
+        width,
+        height,
+    };
+    fill(&frame, count, shrink, scratch, 0);
+    Ok(())
 }
 
-// A part of a frame or of the scratch of its levels: which of the two, where it starts, and how many samples it has.
-#[derive(Clone, Copy)]
+/// A part of a frame or of the scratch of its levels: which of the two, where it starts, and how many samples it has.
+// A flag with a place and no enum: mtb_level, in C, stores all three, of the empty part too.
+#[derive(Clone, Copy, Debug, PartialEq, Eq)]
 pub struct LevelPlace {
     pub in_scratch: bool,
     pub start: usize,
     pub samples: usize,
 }
 
-// Where level k stands, by the lengths of the two lists; the empty part past the last level and wherever 1, 2 or 7 holds.
+/// Where level k stands, by the lengths of the two lists; the empty part past the last level and where `pyramid` would be refused.
 pub fn level_place(
     samples: usize,
     width: usize,
@@ -122,7 +116,7 @@ pub fn level_place(
 ) -> LevelPlace
     ensures { level_place_in result ≡ after (pyramid_checks width height samples bits scratch) (place_of width height (levels width height bits) k) nowhere }
 {
-    let Outcome::Done = pyramid_fits(width, height, samples, bits, scratch) else {
+    let Ok(()) = pyramid_fits(width, height, samples, bits, scratch) else {
         return LevelPlace {
             in_scratch: false,
             start: 0,
@@ -136,7 +130,8 @@ pub fn level_place(
             samples,
         };
     }
-    if k > shrinks(width, height, bits) {
+    let sides = Sides { width, height };
+    if k > shrinks(sides, bits) {
         return LevelPlace {
             in_scratch: false,
             start: 0,
@@ -145,12 +140,12 @@ pub fn level_place(
     }
     LevelPlace {
         in_scratch: true,
-        start: halved_samples(width, height, k - 1),
+        start: halved_samples(sides, k - 1),
         samples: side_at(width, k) * side_at(height, k),
     }
 }
 
-// Level k as the caller's frame or as a part of the scratch; the empty part past the last level and wherever 1, 2 or 7 holds.
+/// Level k as the caller's frame or as a part of the scratch; the empty part past the last level and where `pyramid` would be refused.
 pub fn level<'a>(
     frame: &'a [u8],
     width: usize,

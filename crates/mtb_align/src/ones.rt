@@ -9,7 +9,7 @@ ghost use Rattle.laws.specs.bitmaps.Adders.{bits_apart};
 pub(crate) fn ones_of(word: u64) -> u64
     ensures { (result ≡ sum 64 (bit_of word)) × (result ≤ 64) }
 {
-    u64::count_ones(word) as u64
+    u64::from(word.count_ones())
 }
 
 // Words added up bit by bit: a bit of `ones` counts 1, one of `twos` 2, one of `fours` 4.
@@ -89,21 +89,18 @@ fn ones_of_fifteen(words: &[u64], at: usize, step: usize) -> u64
 }
 
 // How many bits are set in all words: in fifteen parts of equal length at once, which LLVM makes vectors of, then in the few left.
+// By number, since fifteen words that stand `step` apart are added at a time.
 pub(crate) fn ones_in(words: &[u64]) -> u64
     requires { length words.now ≤ 1048576 }
     ensures { result ≡ sum (length words.now) (λ (k : ℕ). sum 64 (bit_of (get_or words.now k 0))) }
 {
     let step = words.len() / 15;
     let mut set: u64 = 0;
-    let mut at: usize = 0;
-    while at < step {
+    for at in 0..step {
         set += ones_of_fifteen(words, at, step);
-        at += 1;
     }
-    let mut k = 15 * step;
-    while k < words.len() {
+    for k in 15 * step..words.len() {
         set += ones_of(words[k]);
-        k += 1;
     }
     set
 }

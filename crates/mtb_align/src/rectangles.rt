@@ -1,11 +1,13 @@
 // Rectangles of words of the reference against those of the target, which are all that rows at a shift have in common.
+// Four slices travel apart and places are added up, for the reasons at the head of words.rt; `n ≤ 128` and `rows ≤ 8192` are bounds of single
+// numbers, of another rectangle at each call.
 ghost use Rattle.std.specs.Prelude.{◌≡◌, ◌+◌, ◌*◌, ◌≤◌, ◌<◌, min, length};
 ghost use Rattle.laws.specs.bitmaps.Joints.{Alike, Reaches, LinesReach, Counted, spanned, edged, run_sum, lines_sum};
 ghost use Rattle.laws.specs.bitmaps.MovedRows.{moved_rows};
 
 use super::bitmap::WORD_BITS;
 use super::difference::Counts;
-use super::words::{edge_run, spanned_run, spanned_sevens, whole_run, whole_sevens};
+use super::words::{Edged, Spanned, View, Whole, run, sevens};
 
 // Two counts together.
 fn together(a: Counts, b: Counts) -> Counts
@@ -18,62 +20,31 @@ fn together(a: Counts, b: Counts) -> Counts
     }
 }
 
-// Both counts of seven runs, seven words at a time, where the target starts `bit` columns up in word j.
-fn sevens(
-    rt: &[u64],
-    re: &[u64],
-    st: &[u64],
-    se: &[u64],
-    i: usize,
-    j: usize,
-    apart: usize,
-    len: usize,
-    bit: usize,
-) -> Counts
-    requires { Alike rt.now re.now st.now se.now × LinesReach (length re.now) (min bit 1) i j apart 1 7 len × (len ≤ 1048576) × (bit < 64) }
-    ensures { Counted (lines_sum (spanned bit) rt.now re.now st.now se.now i j apart 1 7 len) (len * 448) result.compared result.disagreeing }
-{
-    if bit == 0 {
-        return whole_sevens(rt, re, st, se, i, j, apart, len);
-    }
-    spanned_sevens(rt, re, st, se, i, j, apart, len, bit)
-}
-
 // Both counts of words that follow each other: seven runs of a seventh, and the words that are left.
 fn flat(rt: &[u64], re: &[u64], st: &[u64], se: &[u64], i: usize, j: usize, len: usize) -> Counts
     requires { Alike rt.now re.now st.now se.now × (i + len ≤ length re.now) × (j + len ≤ length re.now) }
     ensures { Counted (run_sum (spanned 0) rt.now re.now st.now se.now i j 1 len) (len * 64) result.compared result.disagreeing }
 {
     let seventh = len / 7;
-    let most = whole_sevens(rt, re, st, se, i, j, seventh, seventh);
-    let rest = whole_run(rt, re, st, se, i + 7 * seventh, j + 7 * seventh, 1, len % 7);
+    let most = sevens(Whole, rt, re, st, se, i, j, seventh, seventh);
+    let rest = run(
+        Whole,
+        rt,
+        re,
+        st,
+        se,
+        i + 7 * seventh,
+        j + 7 * seventh,
+        1,
+        len % 7,
+    );
     together(most, rest)
 }
 
-// Both counts of a run where the target starts `bit` columns up in word j.
-fn run(
-    rt: &[u64],
-    re: &[u64],
-    st: &[u64],
-    se: &[u64],
-    i: usize,
-    j: usize,
-    step: usize,
-    len: usize,
-    bit: usize,
-) -> Counts
-    requires { Alike rt.now re.now st.now se.now × Reaches (length re.now) (min bit 1) i j step len × (step ≤ 8192) × (len ≤ 8192) × (bit < 64) }
-    ensures { Counted (run_sum (spanned bit) rt.now re.now st.now se.now i j step len) (len * 64) result.compared result.disagreeing }
-{
-    if bit == 0 {
-        return whole_run(rt, re, st, se, i, j, step, len);
-    }
-    spanned_run(rt, re, st, se, i, j, step, len, bit)
-}
-
-// Both counts of a run where each word shows a part of one word of the target. In a frame of one word a row the words follow each other;
-// LLVM has to see that step as 1 to read them by vectors.
+// Both counts of a run at an edge. In a frame of one word a row the words follow each other; LLVM has to see that step as 1 to read them
+// by vectors.
 fn edge_column(
+    edge: Edged,
     rt: &[u64],
     re: &[u64],
     st: &[u64],
@@ -82,20 +53,19 @@ fn edge_column(
     j: usize,
     step: usize,
     len: usize,
-    down: usize,
-    up: usize,
 ) -> Counts
-    requires { Alike rt.now re.now st.now se.now × Reaches (length re.now) 0 i j step len × (step ≤ 8192) × (len ≤ 8192) × (down < 64) × (up < 64) }
-    ensures { Counted (run_sum (edged down up) rt.now re.now st.now se.now i j step len) (len * 64) result.compared result.disagreeing }
+    requires { Alike rt.now re.now st.now se.now × Reaches (length re.now) 0 i j step len × (step ≤ 8192) × (len ≤ 8192) }
+    ensures { Counted (run_sum (edged edge.down edge.up) rt.now re.now st.now se.now i j step len) (len * 64) result.compared result.disagreeing }
 {
     if step == 1 {
-        return edge_run(rt, re, st, se, i, j, 1, len, down, up);
+        return run(edge, rt, re, st, se, i, j, 1, len);
     }
-    edge_run(rt, re, st, se, i, j, step, len, down, up)
+    run(edge, rt, re, st, se, i, j, step, len)
 }
 
 // Both counts of so many runs, each `apart` words after the one before it.
-fn grid(
+fn grid<V: View>(
+    view: V,
     rt: &[u64],
     re: &[u64],
     st: &[u64],
@@ -106,24 +76,21 @@ fn grid(
     step: usize,
     lines: usize,
     len: usize,
-    bit: usize,
 ) -> Counts
-    requires { Alike rt.now re.now st.now se.now × LinesReach (length re.now) (min bit 1) i j apart step lines len
-        × (apart ≤ 8192) × (step ≤ 8192) × (lines ≤ 8192) × (len ≤ 8192) × (bit < 64) × (i ≤ 268435456) × (j ≤ 268435456) }
-    ensures { Counted (lines_sum (spanned bit) rt.now re.now st.now se.now i j apart step lines len) (lines * 524288) result.compared result.disagreeing }
+    requires { Alike rt.now re.now st.now se.now × LinesReach (length re.now) V.more i j apart step lines len
+        × (apart ≤ 8192) × (step ≤ 8192) × (lines ≤ 8192) × (len ≤ 8192) × (i ≤ 268435456) × (j ≤ 268435456) }
+    ensures { Counted (lines_sum (V.shown view) rt.now re.now st.now se.now i j apart step lines len) (lines * 524288) result.compared result.disagreeing }
 {
     let mut compared: u64 = 0;
     let mut disagreeing: u64 = 0;
     let mut at = i;
     let mut from = j;
-    let mut line: usize = 0;
-    while line < lines {
-        let c = run(rt, re, st, se, at, from, step, len, bit);
+    for _ in 0..lines {
+        let c = run(view, rt, re, st, se, at, from, step, len);
         compared += c.compared;
         disagreeing += c.disagreeing;
         at += apart;
         from += apart;
-        line += 1;
     }
     Counts {
         disagreeing,
@@ -132,7 +99,8 @@ fn grid(
 }
 
 // Both counts of `rows` rows of `columns` words, seven rows at a time and the rows that are left; n words are a row of the frame.
-fn by_sevens(
+fn by_sevens<V: View>(
+    view: V,
     rt: &[u64],
     re: &[u64],
     st: &[u64],
@@ -142,24 +110,21 @@ fn by_sevens(
     j: usize,
     rows: usize,
     columns: usize,
-    bit: usize,
 ) -> Counts
-    requires { Alike rt.now re.now st.now se.now × LinesReach (length re.now) (min bit 1) i j n 1 rows columns
-        × (n ≤ 128) × (rows ≤ 8192) × (columns ≤ n) × (bit < 64) × (i ≤ 1048704) × (j ≤ 1048704) }
-    ensures { Counted (lines_sum (spanned bit) rt.now re.now st.now se.now i j n 1 rows columns) 4294967296 result.compared result.disagreeing }
+    requires { Alike rt.now re.now st.now se.now × LinesReach (length re.now) V.more i j n 1 rows columns
+        × (n ≤ 128) × (rows ≤ 8192) × (columns ≤ n) × (i ≤ 1048704) × (j ≤ 1048704) }
+    ensures { Counted (lines_sum (V.shown view) rt.now re.now st.now se.now i j n 1 rows columns) 4294967296 result.compared result.disagreeing }
 {
     let mut compared: u64 = 0;
     let mut disagreeing: u64 = 0;
     let mut at = i;
     let mut from = j;
-    let mut row: usize = 0;
-    while row + 7 <= rows {
-        let c = sevens(rt, re, st, se, at, from, n, columns, bit);
+    for _ in 0..rows / 7 {
+        let c = sevens(view, rt, re, st, se, at, from, n, columns);
         compared += c.compared;
         disagreeing += c.disagreeing;
         at += 7 * n;
         from += 7 * n;
-        row += 7;
     }
     let upper = Counts {
         disagreeing,
@@ -167,12 +132,13 @@ fn by_sevens(
     };
     together(
         upper,
-        grid(rt, re, st, se, at, from, n, 1, rows - row, columns, bit),
+        grid(view, rt, re, st, se, at, from, n, 1, rows % 7, columns),
     )
 }
 
 // Both counts of `rows` rows of `columns` words. A narrow rectangle is counted by columns, so that the inner run is long.
-fn rectangle(
+fn rectangle<V: View>(
+    view: V,
     rt: &[u64],
     re: &[u64],
     st: &[u64],
@@ -182,16 +148,15 @@ fn rectangle(
     j: usize,
     rows: usize,
     columns: usize,
-    bit: usize,
 ) -> Counts
-    requires { Alike rt.now re.now st.now se.now × LinesReach (length re.now) (min bit 1) i j n 1 rows columns
-        × (n ≤ 128) × (rows ≤ 8192) × (columns ≤ n) × (bit < 64) × (i ≤ 1048704) × (j ≤ 1048704) }
-    ensures { Counted (lines_sum (spanned bit) rt.now re.now st.now se.now i j n 1 rows columns) 4294967296 result.compared result.disagreeing }
+    requires { Alike rt.now re.now st.now se.now × LinesReach (length re.now) V.more i j n 1 rows columns
+        × (n ≤ 128) × (rows ≤ 8192) × (columns ≤ n) × (i ≤ 1048704) × (j ≤ 1048704) }
+    ensures { Counted (lines_sum (V.shown view) rt.now re.now st.now se.now i j n 1 rows columns) 4294967296 result.compared result.disagreeing }
 {
     if columns < 4 {
-        return grid(rt, re, st, se, i, j, 1, n, columns, rows, bit);
+        return grid(view, rt, re, st, se, i, j, 1, n, columns, rows);
     }
-    by_sevens(rt, re, st, se, n, i, j, rows, columns, bit)
+    by_sevens(view, rt, re, st, se, n, i, j, rows, columns)
 }
 
 // Both counts of `rows` rows of n words, from word i of the reference and word j of the target on, each target row moved by m words
@@ -215,7 +180,7 @@ fn aligned(
     if m + q == 0 {
         return flat(rt, re, st, se, i, j, rows * n);
     }
-    rectangle(rt, re, st, se, n, i + m, j + q, rows, n - m - q, 0)
+    rectangle(Whole, rt, re, st, se, n, i + m, j + q, rows, n - m - q)
 }
 
 // The same where each target row is then moved by `bit` columns to the left.
@@ -239,14 +204,20 @@ pub(crate) fn moved(
     if bit == 0 {
         return aligned(rt, re, st, se, n, rows, i, j, m, q);
     }
+    let view = Spanned { bit };
     if m > 0 {
-        let inner = rectangle(rt, re, st, se, n, i + m, j + q, rows, n - m, bit);
-        let edge = edge_column(rt, re, st, se, i + (m - 1), j, n, rows, 0, WORD_BITS - bit);
-        return together(inner, edge);
+        let edge = Edged {
+            down: 0,
+            up: WORD_BITS - bit,
+        };
+        let inner = rectangle(view, rt, re, st, se, n, i + m, j + q, rows, n - m);
+        let side = edge_column(edge, rt, re, st, se, i + (m - 1), j, n, rows);
+        return together(inner, side);
     }
+    let edge = Edged { down: bit, up: 0 };
     let last = n - 1;
     let columns = last - q;
-    let inner = rectangle(rt, re, st, se, n, i + m, j + q, rows, columns, bit);
-    let edge = edge_column(rt, re, st, se, i + columns, j + last, n, rows, bit, 0);
-    together(inner, edge)
+    let inner = rectangle(view, rt, re, st, se, n, i + m, j + q, rows, columns);
+    let side = edge_column(edge, rt, re, st, se, i + columns, j + last, n, rows);
+    together(inner, side)
 }

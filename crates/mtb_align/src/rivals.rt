@@ -1,4 +1,5 @@
 // The rivals of each frame of a stack and the verdict on it, once the walk has placed the frames.
+// `words`, `judged` and `space` are lent to be written: their room stays a requires, since a struct of `&mut` owes a clause on its loan in each contract.
 ghost use Rattle.std.specs.Prelude.{◌≡◌, cond, [], ◌∷◌, ◌+◌, ◌*◌, ◌≤◌, ◌<◌, ltb, eqb, length};
 ghost use Rattle.std.proofs.lemmas.List.Edits.{sets};
 ghost use Rattle.definitions.specs.Align.{neighbour, step_of, stack_words};
@@ -8,25 +9,29 @@ ghost use Rattle.laws.specs.search.StepBounds.{Within};
 ghost use Rattle.laws.specs.search.ShiftLists.{less};
 ghost use Rattle.laws.specs.report.Kept.{Kept, records_of};
 ghost use Rattle.mtb_align.specs.Answers.{shift_in};
-ghost use Rattle.mtb_align.specs.Search.{TwoPairs, pair_counts};
-ghost use Rattle.mtb_align.specs.Stack.{stack_in, Framed, four_in, listed_at, Placed};
-ghost use Rattle.mtb_align.specs.Survey.{terms_in, question_around};
+ghost use Rattle.mtb_align.specs.Packed.{counts_of};
+ghost use Rattle.mtb_align.specs.Stack.{stack_in, four_in, listed_at};
+ghost use Rattle.mtb_align.specs.Survey.{terms_in, question_around, verdict_in};
 
 use super::bitmap::words_per_row;
 use super::geometry::Shift;
-use super::pairs::{TwoFrames, counts_at, pack_both};
+use super::packed::Packed;
+use super::pairs::pack_both;
+use super::placed::Walked;
+use super::question::Question;
 use super::report::Terms;
-use super::survey::{Question, survey};
-use super::walk::{Frames, neighbour_of, shift_at};
+use super::survey::Survey;
+use super::walk::{neighbour_of, shift_at};
 
-// The verdicts.
-const REFERENCE: u8 = 0;
-
-const WEAK: u8 = 1;
-
-const ALONE: u8 = 2;
-
-const CONTESTED: u8 = 3;
+// What is said of a frame: it is the reference, or its step compares too few pixels, is the only rival, or has others.
+// It is stored `as u8`: C is lent the verdicts as bytes (`mtb_report`), and the definitions have numbers.
+#[derive(Clone, Copy)]
+enum Verdict {
+    Reference,
+    Weak,
+    Alone,
+    Contested,
+}
 
 // The step of frame k: its shift less its neighbour's.
 fn step_by_shifts(shifts: &[i32], neighbour: usize, k: usize) -> Shift
@@ -42,58 +47,19 @@ fn step_by_shifts(shifts: &[i32], neighbour: usize, k: usize) -> Shift
     }
 }
 
-// The bitmaps of two frames at full size, each cut at its own percentile.
-fn pack_frames(
-    percentiles: &[u8],
-    samples: &[u8],
-    frames: Frames,
-    first: usize,
-    second: usize,
-    words: &mut [u64],
-)
-    requires { Framed frames percentiles.now samples.now (length words.old) × (1 < frames.count) × (first < frames.count) × (second < frames.count) }
-    ensures { words.new ≡ sets words.old 0 (four_in (stack_in frames percentiles.now samples.now) first second) }
-{
-    let width = frames.width;
-    let height = frames.height;
-    let options = frames.options;
-    let size = width * height;
-    let start = first * size;
-    let end = start + size;
-    let target = second * size;
-    let target_end = target + size;
-    let two = TwoFrames {
-        width,
-        height,
-        first: percentiles[first],
-        second: percentiles[second],
-        options,
-    };
-    pack_both(
-        &samples[start..end],
-        &samples[target..target_end],
-        two,
-        words,
-    );
-}
-
 // The step of frame k against its neighbour, and the bitmaps of both; not for the reference.
-fn sight(
-    percentiles: &[u8],
-    samples: &[u8],
-    frames: Frames,
-    k: usize,
-    shifts: &[i32],
-    words: &mut [u64],
-) -> Shift
-    requires framed { Framed frames percentiles.now samples.now (length words.old) × (k < frames.count) × (k ≡ frames.reference → ⊥) }
-    requires placed { Placed (stack_in frames percentiles.now samples.now) shifts.now }
-    ensures result_value { shift_in result ≡ step_of (stack_in frames percentiles.now samples.now) k }
-    ensures words_after { words.new ≡ sets words.old 0 (four_in (stack_in frames percentiles.now samples.now) (neighbour frames.reference k) k) }
+fn sight(walked: &Walked<'_>, k: usize, words: &mut [u64]) -> Shift
+    requires room { let stack = walked.now.asked.stack in
+        (stack_words (stack_in stack) ≤ length words.old) × (k < length stack.percentiles.now) × (k ≡ stack.reference → ⊥) }
+    ensures result_value { shift_in result ≡ step_of (stack_in walked.now.asked.stack) k }
+    ensures words_after { let stack = walked.now.asked.stack in
+        words.new ≡ sets words.old 0 (four_in (stack_in stack) (neighbour stack.reference k) k) }
 {
-    let neighbour = neighbour_of(frames.reference, k);
-    pack_frames(percentiles, samples, frames, neighbour, k, words);
-    step_by_shifts(shifts, neighbour, k)
+    let stack = &walked.asked.stack;
+    let neighbour = neighbour_of(stack.reference, k);
+    let pair = stack.pair(neighbour, k);
+    pack_both(&pair, words);
+    step_by_shifts(walked.shifts, neighbour, k)
 }
 
 // How many pixels a frame's step compares, and how many records there are once it was surveyed.
@@ -103,117 +69,107 @@ struct Surveyed {
     number: usize,
 }
 
-// The survey of two packed pairs around a step.
+// The survey of two packed pairs around a step. `number` has the bound of `survey_window`: another at each level of the survey, so no one type.
 fn survey_around(
-    words: &[u64],
-    width: usize,
-    height: usize,
+    packed: &Packed<'_>,
     step: Shift,
     terms: Terms,
-    frame: usize,
+    frame: u32,
     space: &mut [u8],
     number: usize,
 ) -> Surveyed
-    requires { TwoPairs words.now width height × Within 65536 (shift_in step) × (terms.reach ≤ 64) × (frame < 16) × (number ≤ 300000) }
-    ensures { (result.compared ≡ (pair_counts words.now width height (shift_in step)).compared)
+    requires { Within 65536 (shift_in step) × (terms.reach ≤ 64) × (number ≤ 300000) }
+    ensures { (result.compared ≡ (counts_of packed.now (shift_in step)).compared)
         × Kept space.old number
-        (records_of (pair_counts words.now width height) frame
-        (survey (pair_counts words.now width height) (question_around (pair_counts words.now width height) (shift_in step) (terms_in terms))))
+        (records_of (counts_of packed.now) frame
+        (survey (counts_of packed.now) (question_around (counts_of packed.now) (shift_in step) (terms_in terms))))
         space.new result.number }
 {
-    let counts = counts_at(words, width, height, step);
+    let counts = packed.counts_at(step);
     let question = Question {
         centre: step,
         reach: terms.reach as usize,
         floor: terms.floor as u64,
         limit: counts.disagreeing + terms.margin as u64,
     };
-    let after = survey(words, width, height, question, frame, space, number);
+    let survey = Survey {
+        packed: *packed,
+        question,
+        frame,
+    };
+    let after = survey.survey_window(space, number);
     Surveyed {
         compared: counts.compared,
         number: after,
     }
 }
 
-// The verdict on a frame that is not the reference, by the pixels that its step compares and the number of its rivals.
-fn verdict_of(compared: u64, rivals: usize, floor: u64) -> u8
-    ensures { result ≡ cond (ltb compared floor) 1 (cond (eqb rivals 1) 2 3) }
+// The verdict on a frame that is not the reference, by the pixels that its step compares and the number of its rivals, of which the
+// step is one.
+fn verdict_of(compared: u64, rivals: usize, floor: u64) -> Verdict
+    ensures { verdict_in result ≡ cond (ltb compared floor) 1 (cond (eqb rivals 1) 2 3) }
 {
     if compared < floor {
-        return WEAK;
+        return Verdict::Weak;
     }
     if rivals == 1 {
-        return ALONE;
+        return Verdict::Alone;
     }
-    CONTESTED
+    Verdict::Contested
 }
 
 // The survey of frame k; the verdict goes into `judged`.
 fn survey_frame(
-    percentiles: &[u8],
-    samples: &[u8],
-    frames: Frames,
+    walked: &Walked<'_>,
     k: usize,
-    terms: Terms,
-    shifts: &[i32],
     judged: &mut [u8],
     space: &mut [u8],
     number: usize,
     words: &mut [u64],
 ) -> usize
-    requires framed { Framed frames percentiles.now samples.now (length words.old) × (k < frames.count) × (terms.reach ≤ 64) × (number ≤ 300000) }
-    requires placed { Placed (stack_in frames percentiles.now samples.now) shifts.now × (frames.count ≤ length judged.old) }
-    ensures kept { Kept space.old number (frame_records (stack_in frames percentiles.now samples.now) (terms_in terms) k) space.new result }
-    ensures judged_after { judged.new ≡ sets judged.old k (verdict (stack_in frames percentiles.now samples.now) (terms_in terms) k ∷ []) }
-    ensures free_up_to { FreeUpTo (stack_words (stack_in frames percentiles.now samples.now)) words.old words.new }
+    requires room { (stack_words (stack_in walked.now.asked.stack) ≤ length words.old) × (k < length walked.now.asked.stack.percentiles.now) × (number ≤ 300000) }
+    requires judged_len { length walked.now.asked.stack.percentiles.now ≤ length judged.old }
+    ensures kept { Kept space.old number (frame_records (stack_in walked.now.asked.stack) (terms_in walked.now.asked.terms) k) space.new result }
+    ensures judged_after { judged.new ≡ sets judged.old k (verdict (stack_in walked.now.asked.stack) (terms_in walked.now.asked.terms) k ∷ []) }
+    ensures free_up_to { FreeUpTo (stack_words (stack_in walked.now.asked.stack)) words.old words.new }
 {
-    if k == frames.reference {
-        judged[k] = REFERENCE;
+    let stack = &walked.asked.stack;
+    let terms = walked.asked.terms;
+    if k == stack.reference {
+        judged[k] = Verdict::Reference as u8;
         return number;
     }
-    let width = frames.width;
-    let height = frames.height;
-    let step = sight(percentiles, samples, frames, k, shifts, words);
+    let width = stack.width;
+    let height = stack.height;
+    let step = sight(walked, k, words);
     let end = 4 * (height * words_per_row(width));
-    let surveyed = survey_around(&words[0..end], width, height, step, terms, k, space, number);
+    let packed = Packed {
+        words: &words[0..end],
+        width,
+        height,
+    };
+    let surveyed = survey_around(&packed, step, terms, k as u32, space, number);
     let after = surveyed.number;
-    judged[k] = verdict_of(surveyed.compared, after - number, terms.floor as u64);
+    judged[k] = verdict_of(surveyed.compared, after - number, terms.floor as u64) as u8;
     after
 }
 
 // The survey of all frames, from the start of the space on.
 pub(crate) fn survey_frames(
-    percentiles: &[u8],
-    samples: &[u8],
-    frames: Frames,
-    terms: Terms,
-    shifts: &[i32],
+    walked: &Walked<'_>,
     judged: &mut [u8],
     space: &mut [u8],
     words: &mut [u64],
 ) -> usize
-    requires framed { Framed frames percentiles.now samples.now (length words.old) × (terms.reach ≤ 64) }
-    requires placed { Placed (stack_in frames percentiles.now samples.now) shifts.now × (frames.count ≤ length judged.old) }
-    ensures kept { Kept space.old 0 (records (stack_in frames percentiles.now samples.now) (terms_in terms)) space.new result }
-    ensures judged_after { judged.new ≡ sets judged.old 0 (verdicts (stack_in frames percentiles.now samples.now) (terms_in terms)) }
-    ensures free_up_to { FreeUpTo (stack_words (stack_in frames percentiles.now samples.now)) words.old words.new }
+    requires room { stack_words (stack_in walked.now.asked.stack) ≤ length words.old }
+    requires judged_len { length walked.now.asked.stack.percentiles.now ≤ length judged.old }
+    ensures kept { Kept space.old 0 (records (stack_in walked.now.asked.stack) (terms_in walked.now.asked.terms)) space.new result }
+    ensures judged_after { judged.new ≡ sets judged.old 0 (verdicts (stack_in walked.now.asked.stack) (terms_in walked.now.asked.terms)) }
+    ensures free_up_to { FreeUpTo (stack_words (stack_in walked.now.asked.stack)) words.old words.new }
 {
     let mut number: usize = 0;
-    let mut k: usize = 0;
-    while k < frames.count {
-        number = survey_frame(
-            percentiles,
-            samples,
-            frames,
-            k,
-            terms,
-            shifts,
-            judged,
-            space,
-            number,
-            words,
-        );
-        k += 1;
+    for k in 0..walked.asked.stack.percentiles.len() {
+        number = survey_frame(walked, k, judged, space, number, words);
     }
     number
 }

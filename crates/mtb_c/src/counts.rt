@@ -6,10 +6,9 @@ ghost use Rattle.definitions.specs.Refusals.{Check, answer, after, counting_chec
 ghost use Rattle.mtb_c.specs.Status.{status_of, values_after};
 
 use super::refusals::put_values;
-use mtb_align::difference::CountsAnswer;
 use mtb_align::geometry::Shift;
 
-// Both counts. Refusal 4 gives both sizes.
+/// Both counts. Refusal 4 gives both sizes.
 #[unsafe(no_mangle)]
 pub extern "C" fn mtb_disagreement(
     reference_threshold: &[u64],
@@ -46,12 +45,12 @@ pub extern "C" fn mtb_disagreement(
         target_height,
         Shift { x, y },
     ) {
-        CountsAnswer::Counted(c) => {
+        Ok(c) => {
             *disagreeing = c.disagreeing;
             *compared = c.compared;
             0
         }
-        CountsAnswer::Refused(e) => {
+        Err(e) => {
             put_values(e, values);
             e.number()
         }

@@ -6,10 +6,7 @@ ghost use Rattle.pgm_format.specs.Pgm.{Image, read_checks, image_read, Frame, pg
 ghost use Rattle.pgm_format.specs.Stack.{images_from, next_from, widths_of, heights_of, joined_samples, read_stack_checks};
 ghost use Rattle.mtb_c.specs.Status.{status_of};
 
-use pgm::stack::StackRead;
-use pgm::{PgmAnswer, WriteAnswer};
-
-// The image at a place of a file: its size, where its samples start in the file, and the place behind them.
+/// The image at a place of a file: its size, where its samples start in the file, and the place behind them.
 #[unsafe(no_mangle)]
 pub extern "C" fn mtb_read_pgm(
     file: &[u8],
@@ -28,18 +25,18 @@ pub extern "C" fn mtb_read_pgm(
         × (next.new ≡ after checks image.next next.old)) }
 {
     match pgm::read(file, at) {
-        PgmAnswer::Found(image) => {
+        Ok(image) => {
             *width = image.width;
             *height = image.height;
             *samples = image.start;
             *next = image.next;
             0
         }
-        PgmAnswer::Refused(e) => e.number(),
+        Err(e) => e.number(),
     }
 }
 
-// The images from a place of a file on as a stack, as many as there are widths; the place behind the last.
+/// The images from a place of a file on as a stack, as many as there are widths; the place behind the last.
 #[unsafe(no_mangle)]
 pub extern "C" fn mtb_read_stack(
     file: &[u8],
@@ -58,15 +55,15 @@ pub extern "C" fn mtb_read_stack(
         × (next.new ≡ after checks (next_from file.now at (length widths.old)) next.old)) }
 {
     match pgm::stack::read_stack(file, at, widths, heights, samples) {
-        StackRead::Laid(place) => {
+        Ok(place) => {
             *next = place;
             0
         }
-        StackRead::Refused(e) => e.number(),
+        Err(e) => e.number(),
     }
 }
 
-// Writes a frame as a PGM file at the front of a buffer; the file's length. What lies past it stays.
+/// Writes a frame as a PGM file at the front of a buffer; the file's length. What lies past it stays.
 #[unsafe(no_mangle)]
 pub extern "C" fn mtb_write_pgm(
     samples: &[u8],
@@ -82,10 +79,10 @@ pub extern "C" fn mtb_write_pgm(
         × (length.new ≡ after checks (lists.length (pgm frame)) length.old)) }
 {
     match pgm::write(samples, width, height, file) {
-        WriteAnswer::Written(n) => {
+        Ok(n) => {
             *length = n;
             0
         }
-        WriteAnswer::Refused(e) => e.number(),
+        Err(e) => e.number(),
     }
 }

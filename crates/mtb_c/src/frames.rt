@@ -7,23 +7,22 @@ ghost use Rattle.definitions.specs.Threshold.{cut as cut_of};
 ghost use Rattle.definitions.specs.Bitmap.{words_per_row, packed, bit_at, with_bit, total as total_of};
 ghost use Rattle.definitions.specs.Difference.{bitmaps_of};
 ghost use Rattle.definitions.specs.Refusals.{answer, after, from_rgb_checks, shrink_checks, cut_checks, packing_checks, pixel_checks, total_checks, row_checks};
-ghost use Rattle.mtb_align.specs.Answers.{outcome, mode_of};
+ghost use Rattle.mtb_align.specs.Answers.{answered, mode_of};
 ghost use Rattle.mtb_c.specs.Status.{status_of, row_part};
 
-use mtb_align::bitmap::{PixelAnswer, TotalAnswer};
-use mtb_align::error::Outcome;
+use mtb_align::error::Error;
 use mtb_align::shrink::Shrink;
-use mtb_align::threshold::CutAnswer;
 
-pub(crate) fn status(o: Outcome) -> u32
-    ensures { result ≡ status_of (outcome o) }
+pub(crate) fn status(o: Result<(), Error>) -> u32
+    ensures { result ≡ status_of (answered (λ done. done) o) }
 {
     match o {
-        Outcome::Done => 0,
-        Outcome::Refused(e) => e.number(),
+        Ok(()) => 0,
+        Err(e) => e.number(),
     }
 }
 
+// How a frame is halved. C says it by a bool (mtb.h).
 pub(crate) fn mode(subsampled: bool) -> Shrink
     ensures { mode_of result ≡ cond subsampled subsample average }
 {
@@ -69,11 +68,11 @@ pub extern "C" fn mtb_threshold(
     ensures cut { cut.new ≡ after (cut_checks width height (length samples.now) percentile) (cut_of samples.now percentile) cut.old }
 {
     match mtb_align::threshold::threshold(samples, width, height, percentile) {
-        CutAnswer::Cut(c) => {
+        Ok(c) => {
             *cut = c;
             0
         }
-        CutAnswer::Refused(e) => e.number(),
+        Err(e) => e.number(),
     }
 }
 
@@ -116,11 +115,11 @@ pub extern "C" fn mtb_get(
     ensures pixel { pixel.new ≡ after (pixel_checks width height (length words.now) x y) (eqb (bit_at words.now width x y) 1) pixel.old }
 {
     match mtb_align::bitmap::get(words, width, height, x, y) {
-        PixelAnswer::Pixel(b) => {
+        Ok(b) => {
             *pixel = b;
             0
         }
-        PixelAnswer::Refused(e) => e.number(),
+        Err(e) => e.number(),
     }
 }
 
@@ -145,15 +144,15 @@ pub extern "C" fn mtb_count_ones(words: &[u64], width: usize, height: usize, tot
     ensures total { total.new ≡ after (total_checks width height words.now) (total_of words.now width height) total.old }
 {
     match mtb_align::bitmap::count_ones(words, width, height) {
-        TotalAnswer::Total(n) => {
+        Ok(n) => {
             *total = n;
             0
         }
-        TotalAnswer::Refused(e) => e.number(),
+        Err(e) => e.number(),
     }
 }
 
-// Row y as a part of the words: how many it has, and into `start` where it stands; both 0 where 1, 2 or 11 holds.
+/// Row y as a part of the words: how many it has, and into `start` where it stands; both 0 where 1, 2 or 11 holds.
 #[unsafe(no_mangle)]
 pub extern "C" fn mtb_row(
     words: &[u64],

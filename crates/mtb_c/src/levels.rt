@@ -6,9 +6,8 @@ ghost use Rattle.definitions.specs.Refusals.{Check, answer, after, pyramid_check
 ghost use Rattle.mtb_c.specs.Status.{status_of};
 
 use super::frames::{mode, status};
-use mtb_align::checks::NeedAnswer;
 
-// The halved levels of a frame, one after another from the scratch's start.
+/// The halved levels of a frame, one after another from the scratch's start.
 #[unsafe(no_mangle)]
 pub extern "C" fn mtb_pyramid(
     samples: &[u8],
@@ -27,8 +26,8 @@ pub extern "C" fn mtb_pyramid(
     status(mtb_align::levels::pyramid(samples, width, height, bits, mode(subsampled), scratch))
 }
 
-// Level k as a part of the frame or of the scratch: how many samples it has, and into the slots which of the two and where it starts.
-// It has none past the last level and where 1, 2 or 7 holds.
+/// Level k as a part of the frame or of the scratch: how many samples it has, and into the slots which of the two and where it starts.
+/// It has none past the last level and where 1, 2 or 7 holds.
 #[unsafe(no_mangle)]
 pub extern "C" fn mtb_level(
     frame: &[u8],
@@ -55,7 +54,7 @@ pub extern "C" fn mtb_level(
     place.samples
 }
 
-// The bytes and the words of scratch that a step needs.
+/// The bytes and the words of scratch that a step needs.
 #[unsafe(no_mangle)]
 pub extern "C" fn mtb_scratch(
     width: usize,
@@ -69,11 +68,11 @@ pub extern "C" fn mtb_scratch(
     ensures words { words.new ≡ after (need_checks width height) (step_words width height) words.old }
 {
     match mtb_align::checks::scratch_needed(width, height, bits) {
-        NeedAnswer::Needed(n) => {
+        Ok(n) => {
             *bytes = n.bytes;
             *words = n.words;
             0
         }
-        NeedAnswer::Refused(e) => e.number(),
+        Err(e) => e.number(),
     }
 }

@@ -2,21 +2,22 @@
 ghost use Rattle.std.specs.Prelude.{◌≡◌, List, map, length};
 ghost use Rattle.definitions.specs.Refusals.{Check, answer, after};
 ghost use Rattle.mosaic_format.specs.Mosaic.{apart, together, mosaic_checks, Plane, planes_of, planes_checks};
-ghost use Rattle.mosaic.specs.Answers.{mosaic_answer};
+ghost use Rattle.mosaic.specs.Answers.{answered};
 ghost use Rattle.mtb_c.specs.Status.{status_of};
 
-use mosaic::{MosaicAnswer, PlanesAnswer};
+use mosaic::MosaicError;
 
-fn status_of(a: MosaicAnswer) -> u32
-    ensures { result ≡ status_of (mosaic_answer a) }
+// As `frames::status`, of another error: one for both would want a trait and two impls for one match.
+fn status_of(answer: Result<(), MosaicError>) -> u32
+    ensures { result ≡ status_of (answered (λ done. done) answer) }
 {
-    match a {
-        MosaicAnswer::Done => 0,
-        MosaicAnswer::Refused(e) => e.number(),
+    match answer {
+        Ok(()) => 0,
+        Err(e) => e.number(),
     }
 }
 
-// The four planes of a mosaic, one after another.
+/// The four planes of a mosaic, one after another.
 #[unsafe(no_mangle)]
 pub extern "C" fn mtb_take_apart(
     mosaic: &[u8],
@@ -31,7 +32,7 @@ pub extern "C" fn mtb_take_apart(
     status_of(mosaic::take_apart(mosaic, width, height, planes))
 }
 
-// The mosaic of four planes.
+/// The mosaic of four planes.
 #[unsafe(no_mangle)]
 pub extern "C" fn mtb_put_together(
     planes: &[u8],
@@ -46,7 +47,7 @@ pub extern "C" fn mtb_put_together(
     status_of(mosaic::put_together(planes, width, height, mosaic))
 }
 
-// Where the four planes of a mosaic start, and their sides.
+/// Where the four planes of a mosaic start, and their sides.
 #[unsafe(no_mangle)]
 pub extern "C" fn mtb_planes(
     width: usize,
@@ -63,7 +64,7 @@ pub extern "C" fn mtb_planes(
         × (heights.new ≡ after checks (map (λ (p : Plane). p.height) planes) heights.old)) }
 {
     match mosaic::layout(width, height) {
-        PlanesAnswer::Laid(planes) => {
+        Ok(planes) => {
             *starts = [
                 planes.even_even.start,
                 planes.even_odd.start,
@@ -84,6 +85,6 @@ pub extern "C" fn mtb_planes(
             ];
             0
         }
-        PlanesAnswer::Refused(e) => e.number(),
+        Err(e) => e.number(),
     }
 }

@@ -6,7 +6,7 @@ ghost use Rattle.definitions.specs.Refusals.{answer, after, shift_checks, shifte
 ghost use Rattle.mtb_c.specs.Status.{status_of};
 
 use super::frames::status;
-use mtb_align::geometry::{CropAnswer, Shift, ShiftAnswer};
+use mtb_align::geometry::Shift;
 
 #[unsafe(no_mangle)]
 pub extern "C" fn mtb_doubled(x: i32, y: i32, new_x: &mut i32, new_y: &mut i32) -> u32
@@ -16,14 +16,14 @@ pub extern "C" fn mtb_doubled(x: i32, y: i32, new_x: &mut i32, new_y: &mut i32) 
 {
     let s = Shift { x, y };
     match s.doubled() {
-        ShiftAnswer::Moved(m) => {
+        Ok(m) => {
             let across = m.x;
             let down = m.y;
             *new_x = across;
             *new_y = down;
             0
         }
-        ShiftAnswer::Refused(e) => e.number(),
+        Err(e) => e.number(),
     }
 }
 
@@ -42,14 +42,14 @@ pub extern "C" fn mtb_offset(
 {
     let s = Shift { x, y };
     match s.offset(by_x, by_y) {
-        ShiftAnswer::Moved(m) => {
+        Ok(m) => {
             let across = m.x;
             let down = m.y;
             *new_x = across;
             *new_y = down;
             0
         }
-        ShiftAnswer::Refused(e) => e.number(),
+        Err(e) => e.number(),
     }
 }
 
@@ -69,7 +69,7 @@ pub extern "C" fn mtb_shifted(
     status(mtb_align::geometry::shifted(samples, width, height, Shift { x, y }, moved))
 }
 
-// The crop's left, top, width and height.
+/// The crop's left, top, width and height.
 #[unsafe(no_mangle)]
 pub extern "C" fn mtb_common_crop(
     shifts: &[i32],
@@ -87,13 +87,13 @@ pub extern "C" fn mtb_common_crop(
     ensures high { high.new ≡ after (crop_checks width height (length shifts.now)) (common_crop (shifts_of shifts.now) width height).height high.old }
 {
     match mtb_align::geometry::common_crop(shifts, width, height) {
-        CropAnswer::Crop(r) => {
+        Ok(r) => {
             *left = r.x;
             *top = r.y;
             *wide = r.width;
             *high = r.height;
             0
         }
-        CropAnswer::Refused(e) => e.number(),
+        Err(e) => e.number(),
     }
 }

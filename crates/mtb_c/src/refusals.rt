@@ -1,10 +1,10 @@
 // What a refused call tells besides its number.
 ghost use Rattle.std.specs.Prelude.{◌≡◌};
 ghost use Rattle.std.proofs.lemmas.List.Edits.{sets};
-ghost use Rattle.mtb_align.specs.Answers.{values_of, outcome};
+ghost use Rattle.mtb_align.specs.Answers.{values_of, answered};
 ghost use Rattle.mtb_c.specs.Status.{status_of, values_after};
 
-use mtb_align::error::{Error, Outcome};
+use mtb_align::error::Error;
 
 // The values of a refusal at the front of a list, which is written and never read.
 pub(crate) fn put_values(e: Error, values: &mut [usize; 5])
@@ -36,13 +36,13 @@ pub(crate) fn put_values(e: Error, values: &mut [usize; 5])
 }
 
 // A status, with the values of a refusal.
-pub(crate) fn status_with(o: Outcome, values: &mut [usize; 5]) -> u32
-    ensures status { result ≡ status_of (outcome o) }
-    ensures values { values.new ≡ values_after (outcome o) values.old }
+pub(crate) fn status_with(o: Result<(), Error>, values: &mut [usize; 5]) -> u32
+    ensures status { result ≡ status_of (answered (λ done. done) o) }
+    ensures values { values.new ≡ values_after (answered (λ done. done) o) values.old }
 {
     match o {
-        Outcome::Done => 0,
-        Outcome::Refused(e) => {
+        Ok(()) => 0,
+        Err(e) => {
             put_values(e, values);
             e.number()
         }

@@ -8,10 +8,10 @@ ghost use Rattle.mtb_c.specs.Status.{status_of, values_after, options_of, terms_
 use super::frames::mode;
 use super::refusals::put_values;
 use mtb_align::align::Options;
-use mtb_align::report::{ReportAnswer, Terms};
+use mtb_align::report::Terms;
 
-// The crop's left, top, width and height, and the number of records, from an accepted report alone: how many records 10 asks for is
-// the first of the values.
+/// The crop's left, top, width and height, and the number of records, from an accepted report alone: how many records 10 asks for is
+/// the first of the values.
 #[unsafe(no_mangle)]
 pub extern "C" fn mtb_report(
     widths: &[usize],
@@ -96,7 +96,7 @@ pub extern "C" fn mtb_report(
         bytes,
         words,
     ) {
-        ReportAnswer::Reported(s) => {
+        Ok(s) => {
             *left = s.crop.x;
             *top = s.crop.y;
             *wide = s.crop.width;
@@ -104,7 +104,7 @@ pub extern "C" fn mtb_report(
             *count = s.records;
             0
         }
-        ReportAnswer::Refused(e) => {
+        Err(e) => {
             put_values(e, values);
             e.number()
         }

@@ -6,9 +6,9 @@ ghost use Rattle.mtb_c.specs.Status.{status_of, values_after, options_of};
 
 use super::frames::mode;
 use super::refusals::{put_values, status_with};
-use mtb_align::align::{Options, StepAnswer};
+use mtb_align::align::Options;
 
-// The step and its comparisons. Refusal 4 gives both sizes.
+/// The step and its comparisons. Refusal 4 gives both sizes.
 #[unsafe(no_mangle)]
 pub extern "C" fn mtb_shift(
     reference: &[u8],
@@ -68,7 +68,7 @@ pub extern "C" fn mtb_shift(
         bytes,
         words,
     ) {
-        StepAnswer::Stepped(s) => {
+        Ok(s) => {
             let across = s.shift.x;
             let down = s.shift.y;
             *x = across;
@@ -76,7 +76,7 @@ pub extern "C" fn mtb_shift(
             *comparisons = s.comparisons;
             0
         }
-        StepAnswer::Refused(e) => {
+        Err(e) => {
             put_values(e, values);
             e.number()
         }

@@ -1,30 +1,21 @@
--- P5, a field and a header, by the tests that the code makes.
+-- P5, a field, one white space byte and a header, by the tests that the code makes.
 use mathlib.Core.Path.{◌≡◌, refl, sym, ap, subst, ◌∙◌}
-use mathlib.Core.Bool.{Bool, true, false, cond, not, ◌&&◌}
-use mathlib.Core.Logic.{⊎_elim}
+use mathlib.Core.Bool.{Bool, true, false, cond, ◌&&◌}
 use mathlib.Core.List.{List, [], ◌∷◌}
 use Prim.Native.Nat.{ℕ, suc, ◌+◌, ◌-◌, ◌≤◌, ◌<◌}
 use native.Mathlib.Omega.{arith}
-use borrow.Author.Tests.{lt-ltb, le-ltb}
+use borrow.Author.Tests.{lt-ltb, le-ltb, eq-eqb, ne_eqb}
 use lib.Dec.{eqb, ltb}
-use lib.ListN.{length, get_or, drop, length-drop}
-use Rattle.laws.specs.general.Cases.{lt_or_le, clash, cond_true, cond_false, and_yes, and_no}
+use lib.ListN.{length, get_or, drop, length-drop, drop_of_length-le}
+use Rattle.std.specs.Prelude.{Some, None}
+use Rattle.laws.specs.general.Cases.{cond_true, cond_false, and_yes, and_no}
 use Rattle.definitions.specs.Decimal.{value_from}
-use Rattle.pgm_format.specs.Pgm.{is_white, after_gap, digits_of, after_digits, Reading, missing, found, is_missing, magic, and_then, field_of, one_white, Sizes, header_of}
+use Rattle.pgm_format.specs.Pgm.{is_white, after_gap, digits_of, after_digits, Reading, missing, found, magic, and_then, field_of, one_white, Sizes, header_of}
 use Rattle.pgm.specs.declared.header.Number.{Number}
-use Rattle.pgm.specs.declared.header.FieldRead.{FieldRead}
-use Rattle.pgm.specs.declared.header.FieldRead.TheVariants as fields
 use Rattle.pgm.specs.declared.header.Head.{Head}
-use Rattle.pgm.specs.declared.header.HeaderRead.TheVariants as headers
-use Rattle.pgm.specs.Inner.{From, after_white, kept, FieldIs, HeaderIs}
+use Rattle.pgm.specs.Inner.{From, kept, ReadAs, PlaceIs, FieldIs, HeaderIs}
 use Rattle.pgm.proofs.Places.{split, no_sooner, gap_length}
 use Rattle.pgm.proofs.Numbers.{NumberAt, digits_length}
-
--- nothing was read
-pub none_read : {A : Type 0} (r : Reading A) → not (is_missing r) ≡ false → r ≡ missing
-unfolding is_missing
-none_read missing e = refl
-none_read (found a l) e = clash e
 
 -- ---- P5
 
@@ -38,10 +29,6 @@ module _ (file : List ℕ) (at : ℕ) where
       never : {n : ℕ} → suc (suc n) < 2 → ⊥
       never h = omega arith
 
-  pub magic_short : length file < at + 2 → false ≡ not (is_missing (magic (drop at file)))
-  unfolding is_missing
-  magic_short h = sym (ap (λ (r : Reading (Unit {0})). not (is_missing r)) (few (drop at file) (omega (arith, length-drop at file))))
-
   abbrev tested : Bool
   tested = eqb (get_or file at 0) 80 && eqb (get_or file (at + 1) 0) 53
 
@@ -53,19 +40,27 @@ module _ (file : List ℕ) (at : ℕ) where
       (split file at (omega arith)
       ∙ ap (λ (l : List ℕ). get_or file at 0 ∷ l) (split file (at + 1) (omega arith) ∙ ap (λ (k : ℕ). get_or file (at + 1) 0 ∷ drop k file) two))
 
-  pub magic_test : at + 2 ≤ length file → tested ≡ not (is_missing (magic (drop at file)))
-  unfolding is_missing
-  magic_test h = on tested ∙ sym (ap (λ (r : Reading (Unit {0})). not (is_missing r)) (magic_here h))
-    where
-      on : (t : Bool) → t ≡ not (is_missing (cond {A = Reading (Unit {0})} t (found tt (drop (at + 2) file)) missing))
-      on true = refl
-      on false = refl
+  abbrev NoMagic : Type 0
+  NoMagic = PlaceIs file (magic (drop at file)) None
 
-  pub magic_found : not (is_missing (magic (drop at file))) ≡ true → (at + 2 ≤ length file) × (magic (drop at file) ≡ found tt (drop (at + 2) file))
-  magic_found e = ⊎_elim
-      (λ (h : length file < at + 2). clash (sym e ∙ sym (magic_short h)))
-      (λ (h : at + 2 ≤ length file). (h, magic_here h ∙ cond_true _ _ (magic_test h ∙ e)))
-      (lt_or_le (length file) (at + 2))
+  none_here : magic (drop at file) ≡ missing → NoMagic
+  none_here e = subst (λ (r : Reading (Unit {0})). PlaceIs file r None) (sym e) tt
+
+  pub magic_short : length file < at + 2 → NoMagic
+  magic_short h = none_here (few (drop at file) (omega (arith, length-drop at file)))
+
+  module _ (h : at + 2 ≤ length file) where
+    pub magic_other : (get_or file at 0 ≡ 80 → ⊥) → NoMagic
+    magic_other e = none_here (magic_here h ∙ cond_false _ _ (ap (λ (t : Bool). t && eqb (get_or file (at + 1) 0) 53) (ne_eqb _ 80 e)))
+
+    pub magic_cut : (get_or file (at + 1) 0 ≡ 53 → ⊥) → NoMagic
+    magic_cut e = none_here (magic_here h ∙ cond_false _ _ (and_no (eqb (get_or file at 0) 80) (ne_eqb _ 53 e)))
+
+    pub magic_found : get_or file at 0 ≡ 80 → get_or file (at + 1) 0 ≡ 53 → PlaceIs file (magic (drop at file)) (Some (at + 2))
+    magic_found p q =
+        subst (λ (r : Reading (Unit {0})). PlaceIs file r (Some (at + 2)))
+        (sym (magic_here h ∙ cond_true _ _ (and_yes (eq-eqb _ 80 p) (eq-eqb _ 53 q))))
+        (record { inside = h; left = refl })
 
 -- ---- a field
 
@@ -78,12 +73,12 @@ module _ {file : List ℕ} {at from : ℕ} (h : at ≤ length file) (p : From fi
   behind = sym (ap length p.left) ∙ length-drop from file
 
   no_field : ltb (length (after_gap false (drop at file))) (length (drop at file)) && ltb 0 (length digits) ≡ false
-      → FieldIs file (field_of (drop at file)) fields.Missing
+      → FieldIs file (field_of (drop at file)) None
   unfolding field_of
-  no_field e = subst (λ (r : Reading ℕ). FieldIs file r fields.Missing) (sym (cond_false _ _ e)) tt
+  no_field e = subst (λ (r : Reading ℕ). FieldIs file r None) (sym (cond_false _ _ e)) tt
 
   -- no gap
-  pub field_joined : from ≡ at → FieldIs file (field_of (drop at file)) fields.Missing
+  pub field_joined : from ≡ at → FieldIs file (field_of (drop at file)) None
   field_joined e =
       no_field
       (ap (λ (t : Bool). t && ltb 0 (length digits))
@@ -97,13 +92,13 @@ module _ {file : List ℕ} {at from : ℕ} (h : at ≤ length file) (p : From fi
         omega (arith, digits_length d, length-drop from file, length-drop n.next file, ap length q.1.left, ap (λ (l : List ℕ). length (digits_of l)) p.left)
 
     -- no digits
-    pub field_bare : n.next ≡ from → FieldIs file (field_of (drop at file)) fields.Missing
+    pub field_bare : n.next ≡ from → FieldIs file (field_of (drop at file)) None
     field_bare e = no_field (and_no (ltb (length (after_gap false (drop at file))) (length (drop at file))) (le-ltb 0 (length digits) (omega (arith, beyond))))
 
-    pub field_found : (from ≡ at → ⊥) → (n.next ≡ from → ⊥) → FieldIs file (field_of (drop at file)) (fields.Found n)
+    pub field_found : (from ≡ at → ⊥) → (n.next ≡ from → ⊥) → FieldIs file (field_of (drop at file)) (Some n)
     unfolding field_of
     field_found e f =
-        subst (λ (r : Reading ℕ). FieldIs file r (fields.Found n))
+        subst (λ (r : Reading ℕ). FieldIs file r (Some n))
         (sym
         (cond_true _ _
         (and_yes
@@ -115,6 +110,49 @@ module _ {file : List ℕ} {at from : ℕ} (h : at ≤ length file) (p : From fi
       where
         later : at ≤ from
         later = no_sooner h p (gap_length false (drop at file))
+
+-- ---- one white space byte
+
+module _ (file : List ℕ) (at : ℕ) where
+  abbrev u : Unit {0}
+  u = tt
+
+  abbrev NoWhite : Type 0
+  NoWhite = PlaceIs file (one_white u (drop at file)) None
+
+  module _ (h : at < length file) where
+    white_here : one_white u (drop at file) ≡ cond (is_white (get_or file at 0)) (found u (drop (at + 1) file)) missing
+    unfolding one_white
+    white_here = ap (one_white u) (split file at h)
+
+    pub white_found : is_white (get_or file at 0) ≡ true → PlaceIs file (one_white u (drop at file)) (Some (at + 1))
+    white_found e =
+        subst (λ (r : Reading (Unit {0})). PlaceIs file r (Some (at + 1))) (sym (white_here ∙ cond_true _ _ e)) (record { inside = omega arith; left = refl })
+
+    pub white_other : is_white (get_or file at 0) ≡ false → NoWhite
+    white_other e = subst (λ (r : Reading (Unit {0})). PlaceIs file r None) (sym (white_here ∙ cond_false _ _ e)) tt
+
+  pub white_end : length file ≤ at → NoWhite
+  unfolding one_white
+  white_end h = subst (λ (l : List ℕ). PlaceIs file (one_white u l) None) (sym (drop_of_length-le file h)) tt
+
+-- ---- a reading
+
+-- Something was read.
+pub record Got {A T : Type 0} (P : A → List ℕ → T → Type 0) (r : Reading A) (t : T) : Type 0 where
+  pub value : A
+  pub left : List ℕ
+  pub is : r ≡ found value left
+  pub holds : P value left t
+
+module _ {A T : Type 0} (P : A → List ℕ → T → Type 0) where
+  pub got : (r : Reading A) {t : T} → ReadAs P r (Some t) → Got P r t
+  got missing h = absurd h
+  got (found a l) h = record { value = a; left = l; is = refl; holds = h }
+
+  pub none_read : (r : Reading A) → ReadAs P r None → r ≡ missing
+  none_read missing h = refl
+  none_read (found a l) h = absurd h
 
 -- ---- a header
 
@@ -135,7 +173,7 @@ pub header_none : (l : List ℕ) → magic l ≡ missing → header_of l ≡ mis
 unfolding header_of and_then
 header_none l e = ap (λ (r : Reading (Unit {0})). and_then r (λ (u : Unit {0}) (a : List ℕ). from_width a)) e
 
-pub header_on : (l : List ℕ) {a : List ℕ} → magic l ≡ found tt a → header_of l ≡ from_width a
+pub header_on : (l : List ℕ) {u : Unit {0}} {a : List ℕ} → magic l ≡ found u a → header_of l ≡ from_width a
 unfolding header_of and_then
 header_on l e = ap (λ (r : Reading (Unit {0})). and_then r (λ (u : Unit {0}) (a : List ℕ). from_width a)) e
 
@@ -146,63 +184,45 @@ pub record Step (file : List ℕ) (whole : Reading Sizes) (f : ℕ → List ℕ 
   pub inside : r.next ≤ length file
   pub goes : whole ≡ f n (drop r.next file)
 
-module _ (file l : List ℕ) (f : ℕ → List ℕ → Reading Sizes) {whole : Reading Sizes} (w : whole ≡ and_then (field_of l) f) {r : FieldRead} (p : FieldIs file (field_of l) r) where
-  pub step_none : r ≡ fields.Missing → whole ≡ missing
+module _ (file l : List ℕ) (f : ℕ → List ℕ → Reading Sizes) {whole : Reading Sizes} (w : whole ≡ and_then (field_of l) f) where
+  pub step_none : FieldIs file (field_of l) None → whole ≡ missing
   unfolding and_then
-  step_none e = w ∙ on (field_of l) (subst (λ (k : FieldRead). FieldIs file (field_of l) k) e p)
-    where
-      on : (g : Reading ℕ) → FieldIs file g fields.Missing → and_then g f ≡ missing
-      on missing q = refl
-      on (found n m) q = absurd q
+  step_none p = w ∙ ap (λ (g : Reading ℕ). and_then g f) (none_read _ (field_of l) p)
 
-  pub step : {k : Number} → r ≡ fields.Found k → Step file whole f k
+  pub step : {k : Number} → FieldIs file (field_of l) (Some k) → Step file whole f k
   unfolding and_then
-  step {k} e = on (field_of l) refl (subst (λ (k : FieldRead). FieldIs file (field_of l) k) e p)
-    where
-      on : (g : Reading ℕ) → field_of l ≡ g → FieldIs file g (fields.Found k) → Step file whole f k
-      on missing i q = absurd q
-      on (found n m) i q = record {
-        n = n;
-        value = q.0;
-        inside = q.1.inside;
-        goes = w ∙ ap (λ (g : Reading ℕ). and_then g f) i ∙ sym (ap (f n) q.1.left);
-      }
+  step p = let g = got _ (field_of l) p in record {
+    n = g.value;
+    value = g.holds.0;
+    inside = g.holds.1.inside;
+    goes = w ∙ ap (λ (r : Reading ℕ). and_then r f) g.is ∙ sym (ap (f g.value) g.holds.1.left);
+  }
 
--- the byte behind the highest value, by the place behind it
-module _ {A : Type 0} (a : A) (file : List ℕ) (i : ℕ) {r : ℕ} (p : From file (after_white (drop i file)) r) where
-  -- how much is left
-  white_left : length (after_white (drop i file)) ≡ length file - r
-  white_left = sym (ap length p.left) ∙ length-drop r file
-
-  pub white_none : r ≡ i → one_white a (drop i file) ≡ missing
-  unfolding one_white after_white
-  white_none e = on (drop i file) (omega (arith, white_left, length-drop i file))
+-- what is read of the byte behind the highest value is read with the sizes
+module _ (s : Sizes) where
+  pub last_none : (l : List ℕ) → one_white (tt {0}) l ≡ missing → one_white s l ≡ missing
+  unfolding one_white
+  last_none [] e = refl
+  last_none (b ∷ l) e = on (is_white b) e
     where
-      on : (l : List ℕ) → length (after_white l) ≡ length l → one_white a l ≡ missing
-      on [] h = refl
-      on (b ∷ l) h = test (is_white b) h
-        where
-          test : (t : Bool) → length (cond t l (b ∷ l)) ≡ suc (length l) → cond t (found a l) missing ≡ missing
-          test true k = absurd (omega arith)
-          test false k = refl
+      on : (t : Bool) → cond {A = Reading (Unit {0})} t (found tt l) missing ≡ missing → cond t (found s l) missing ≡ missing
+      on true k = cc
+      on false k = refl
 
-  pub white_found : i ≤ length file → (r ≡ i → ⊥) → one_white a (drop i file) ≡ found a (drop r file)
-  unfolding one_white after_white
-  white_found h e = on (drop i file) (λ k. e (omega (arith, white_left, length-drop i file, p.inside, h, k))) ∙ ap (found a) (sym p.left)
+  pub last_found : (l : List ℕ) {u : Unit {0}} {m : List ℕ} → one_white (tt {0}) l ≡ found u m → one_white s l ≡ found s m
+  unfolding one_white
+  last_found [] e = cc
+  last_found (b ∷ l) {u} {m} e = on (is_white b) e
     where
-      on : (l : List ℕ) → (length (after_white l) ≡ length l → ⊥) → one_white a l ≡ found a (after_white l)
-      on [] h = absurd (h refl)
-      on (b ∷ l) h = test (is_white b) h
-        where
-          test : (t : Bool) → (length (cond t l (b ∷ l)) ≡ suc (length l) → ⊥) → cond t (found a l) missing ≡ found a (cond t l (b ∷ l))
-          test true k = refl
-          test false k = absurd (k refl)
+      on : (t : Bool) → cond {A = Reading (Unit {0})} t (found tt l) missing ≡ found u m → cond t (found s l) missing ≡ found s m
+      on true k = cc
+      on false k = cc
 
 -- what read_header answers
-pub header_missing : (file l : List ℕ) → header_of l ≡ missing → HeaderIs file (header_of l) headers.Missing
-header_missing file l e = subst (λ (r : Reading Sizes). HeaderIs file r headers.Missing) (sym e) tt
+pub header_missing : (file l : List ℕ) → header_of l ≡ missing → HeaderIs file (header_of l) None
+header_missing file l e = subst (λ (r : Reading Sizes). HeaderIs file r None) (sym e) tt
 
 pub header_found : (file l : List ℕ) {s : Sizes} (h : Head) → header_of l ≡ found s (drop h.start file) → h.start ≤ length file
-    → (h.width ≡ kept s.width) × (h.height ≡ kept s.height) × (h.highest ≡ kept s.highest) → HeaderIs file (header_of l) (headers.Found h)
+    → (h.width ≡ kept s.width) × (h.height ≡ kept s.height) × (h.highest ≡ kept s.highest) → HeaderIs file (header_of l) (Some h)
 header_found file l h e i p =
-    subst (λ (r : Reading Sizes). HeaderIs file r (headers.Found h)) (sym e) (p.0, p.1, p.2, record { inside = i; left = refl })
+    subst (λ (r : Reading Sizes). HeaderIs file r (Some h)) (sym e) (p.0, p.1, p.2, record { inside = i; left = refl })

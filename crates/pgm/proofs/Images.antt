@@ -1,10 +1,11 @@
 -- An image by its header: the checks answer the same of the numbers as they are kept, and so the answer is the reader's.
-use mathlib.Core.Path.{◌≡◌, refl, sym, ap, ap₂, subst, ◌∙◌}
+use mathlib.Core.Path.{◌≡◌, sym, ap, ap₂, ◌∙◌}
 use mathlib.Core.Logic.{⊎_elim}
 use mathlib.Core.List.{List, []}
 use Prim.Native.Nat.{ℕ, ◌-◌, ◌≤◌, ◌<◌, max}
 use native.Mathlib.Omega.{arith}
 use lib.ListN.{length, drop, length-drop}
+use Rattle.std.specs.Prelude.{Some, None}
 use Rattle.definitions.specs.Refusals.{Answer, refused, answer}
 use Rattle.laws.specs.general.Cases.{lt_or_le, eq_or_ne}
 use Rattle.pgm_format.specs.Pgm as format
@@ -12,9 +13,8 @@ use Rattle.pgm_format.specs.Pgm.{Reading, missing, found, header_of, Sizes, Imag
 use Rattle.pgm_format.specs.SizeChecks.{over_stop, highest_stop}
 use Rattle.pgm_format.specs.Grammar.{read_none, read_some}
 use Rattle.pgm.specs.declared.header.Head.{Head}
-use Rattle.pgm.specs.declared.header.HeaderRead.{HeaderRead}
-use Rattle.pgm.specs.declared.header.HeaderRead.TheVariants as headers
 use Rattle.pgm.specs.Inner.{kept, HeaderIs}
+use Rattle.pgm.proofs.Headers.{got, none_read}
 
 -- ---- the numbers as they are kept
 
@@ -59,27 +59,17 @@ kept_sized s left start = ⊎_elim
 
 -- ---- what is read
 
-module _ (file : List ℕ) (at : ℕ) {h : HeaderRead} (p : HeaderIs file (header_of (drop at file)) h) where
-  pub read_missing : h ≡ headers.Missing → refused 13 [] ≡ format.read file at
-  read_missing e = on (header_of (drop at file)) refl (subst (HeaderIs file (header_of (drop at file))) e p)
-    where
-      on : (r : Reading Sizes) → header_of (drop at file) ≡ r → HeaderIs file r headers.Missing → refused 13 [] ≡ format.read file at
-      on missing i q = sym (read_none file at i)
-      on (found s l) i q = absurd q
+module _ (file : List ℕ) (at : ℕ) where
+  pub read_missing : HeaderIs file (header_of (drop at file)) None → refused 13 [] ≡ format.read file at
+  read_missing p = sym (read_none file at (none_read _ (header_of (drop at file)) p))
 
-  module _ {head : Head} (e : h ≡ headers.Found head) where
-    here : HeaderIs file (header_of (drop at file)) (headers.Found head)
-    here = subst (HeaderIs file (header_of (drop at file))) e p
-
-    pub read_found : sized (sizes_of head) (length file - head.start) head.start ≡ format.read file at
-    read_found = on (header_of (drop at file)) refl here
-      where
-        on : (r : Reading Sizes) → header_of (drop at file) ≡ r → HeaderIs file r (headers.Found head)
-            → sized (sizes_of head) (length file - head.start) head.start ≡ format.read file at
-        on missing i q = absurd q
-        on (found s l) i q =
-            let n : length file - head.start ≡ length l = sym (length-drop head.start file) ∙ ap length q.3.left in
-            ap (λ (k : Sizes). sized k (length file - head.start) head.start) (same_sizes q.0 q.1 q.2)
-            ∙ kept_sized s (length file - head.start) head.start
-            ∙ ap₂ (λ (m i : ℕ). sized s m i) n (omega (arith, n, q.3.inside))
-            ∙ sym (read_some file at i)
+  pub read_found : (head : Head) → HeaderIs file (header_of (drop at file)) (Some head)
+      → sized (sizes_of head) (length file - head.start) head.start ≡ format.read file at
+  read_found head p =
+      let g = got _ (header_of (drop at file)) p in
+      let q = g.holds in
+      let n : length file - head.start ≡ length g.left = sym (length-drop head.start file) ∙ ap length q.3.left in
+      ap (λ (k : Sizes). sized k (length file - head.start) head.start) (same_sizes q.0 q.1 q.2)
+      ∙ kept_sized g.value (length file - head.start) head.start
+      ∙ ap₂ (λ (m i : ℕ). sized g.value m i) n (omega (arith, n, q.3.inside))
+      ∙ sym (read_some file at g.is)

@@ -57,14 +57,14 @@ NumberAt file at value next = (value ≡ kept (value_from 0 (digits_of (drop at 
 
 module _ {file : List ℕ} {at value i : ℕ} (r : SoFar file at value i) where
   -- no digit is left
-  over : digits_of (drop i file) ≡ [] → From file (after_digits (drop at file)) i → NumberAt file at value i
+  over : {next : ℕ} → digits_of (drop i file) ≡ [] → From file (after_digits (drop at file)) next → NumberAt file at value next
   unfolding value_from
   over e p = (kept_all r.few ∙ sym (ap (λ (l : List ℕ). kept (value_from value l)) e) ∙ r.whole, p)
     where
       kept_all : {n : ℕ} → n ≤ 8193 → n ≡ kept n
       kept_all h = omega arith
 
-  pub number_end : length file ≤ i → NumberAt file at value i
+  pub number_end : length file ≤ i → NumberAt file at value (length file)
   unfolding digits_of after_digits
   number_end h = over (ap digits_of (drop_of_length-le file h)) (left_end r.left h refl)
 

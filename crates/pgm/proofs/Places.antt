@@ -12,7 +12,7 @@ use lib.Seq.{drop-cons}
 use Rattle.definitions.specs.Sum.{bit, sum}
 use Rattle.laws.specs.general.Sums.{sum_none_in}
 use Rattle.pgm_format.specs.Pgm.{is_white, after_gap}
-use Rattle.pgm.specs.Inner.{From, after_comment, after_white}
+use Rattle.pgm.specs.Inner.{From, after_comment}
 use Rattle.laws.specs.general.Cases.{cond_true, cond_false}
 
 -- the byte at a place, and what is behind it
@@ -40,10 +40,11 @@ module _ {f : List ℕ → List ℕ} {file : List ℕ} {at : ℕ} where
     left_stop e = record { inside = l.inside; left = sym e ∙ l.same }
 
     -- the file ends
-    pub left_end : length file ≤ i → f [] ≡ [] → From file (f (drop at file)) i
+    pub left_end : length file ≤ i → f [] ≡ [] → From file (f (drop at file)) (length file)
     left_end h e =
         let d : drop i file ≡ [] = drop_of_length-le file h in
-        left_stop (ap f d ∙ e ∙ sym d)
+        let n : i ≡ length file = omega (arith, l.inside) in
+        subst (From file (f (drop at file))) n (left_stop (ap f d ∙ e ∙ sym d))
 
 -- a place behind which no more stands than behind another is not before it
 pub no_sooner : {file l : List ℕ} {at r : ℕ} → at ≤ length file → From file l r → length l ≤ length (drop at file) → at ≤ r
@@ -163,19 +164,3 @@ module _ {file : List ℕ} {at i : ℕ} (l : Left (after_gap false) file at i) (
   pub gap_ends : is_white (get_or file i 0) ≡ false → (get_or file i 0 ≡ 35 → ⊥) → From file (after_gap false (drop at file)) i
   gap_ends e p =
       left_stop l (ap (after_gap false) (split file i h) ∙ gap_stop (get_or file i 0) (drop (i + 1) file) e p ∙ sym (split file i h))
-
--- ---- one white space byte
-
-module _ {file : List ℕ} {at : ℕ} where
-  module _ (h : at < length file) where
-    pub white_taken : is_white (get_or file at 0) ≡ true → From file (after_white (drop at file)) (at + 1)
-    unfolding after_white
-    white_taken e = record { inside = omega arith; left = sym (ap after_white (split file at h) ∙ cond_true _ _ e) }
-
-    pub white_other : is_white (get_or file at 0) ≡ false → From file (after_white (drop at file)) at
-    unfolding after_white
-    white_other e = record { inside = omega arith; left = split file at h ∙ sym (ap after_white (split file at h) ∙ cond_false _ _ e) }
-
-  pub white_end : at ≤ length file → length file ≤ at → From file (after_white (drop at file)) at
-  unfolding after_white
-  white_end i h = let d : drop at file ≡ [] = drop_of_length-le file h in record { inside = i; left = d ∙ sym (ap after_white d) }

@@ -11,7 +11,7 @@ use Rattle.laws.specs.checks.Checks.{value_is, stop, skip, done, accepted_too, r
 use Rattle.pgm_format.specs.Pgm.{Image, read_checks, image_read, samples_of, read}
 use Rattle.pgm_format.specs.Stack.{images_from, next_from, place_past, images_checks, joined_samples}
 use Rattle.pgm_format.specs.Runs.{passes_read, samples_long}
-use Rattle.pgm.specs.Inner.{Extent}
+use Rattle.pgm.specs.Answers.{Run}
 
 -- an accepted image is the one that is read there
 pub image_is : (file : List ℕ) (at : ℕ) {i : Image} → accepted i ≡ read file at → i ≡ image_read file at
@@ -63,22 +63,22 @@ module _ (file : List ℕ) (at n : ℕ) where
 
 -- ---- counting: some images are read, `left` are not yet
 
-abbrev pub extent : List ℕ → ℕ → ℕ → Extent
+abbrev pub extent : List ℕ → ℕ → ℕ → Run
 extent file at n = record { samples = length (samples_from file at n); next = next_from file at n }
 
 pub record Counted (file : List ℕ) (at n samples next left : ℕ) : Type 0 where
-  pub answers : (e : Extent) → answer (images_checks file at n) e ≡ answer (images_checks file next left) e
+  pub answers : (e : Run) → answer (images_checks file at n) e ≡ answer (images_checks file next left) e
   pub sum : samples + length (samples_from file next left) ≡ length (samples_from file at n)
   pub place : next_from file next left ≡ next_from file at n
 
 module _ {file : List ℕ} {at n : ℕ} where
   -- the checks that are left
-  to_read : {samples next left rest : ℕ} → Counted file at n samples next left → left ≡ suc rest → (e : Extent)
+  to_read : {samples next left rest : ℕ} → Counted file at n samples next left → left ≡ suc rest → (e : Run)
       → answer (images_checks file at n) e ≡ answer (read_checks file next ++ images_checks file (image_read file next).next rest) e
   to_read {next = next} {rest = rest} c l e =
       c.answers e ∙ ap (λ (k : List Check). answer k e) (ap (images_checks file next) l ∙ checks_more file next rest)
 
-  to_end : {samples next left : ℕ} → Counted file at n samples next left → left ≡ 0 → (e : Extent) → answer (images_checks file at n) e ≡ answer (place_past file next ∷ []) e
+  to_end : {samples next left : ℕ} → Counted file at n samples next left → left ≡ 0 → (e : Run) → answer (images_checks file at n) e ≡ answer (place_past file next ∷ []) e
   to_end {next = next} c l e = c.answers e ∙ ap (λ (k : List Check). answer k e) (ap (images_checks file next) l ∙ checks_none file next 0)
 
   pub one_counted : {samples next left rest : ℕ} {i : Image} → Counted file at n samples next left → left ≡ suc rest → accepted i ≡ read file next
@@ -118,5 +118,5 @@ module _ {file : List ℕ} {at n : ℕ} where
       let p : next ≡ next_from file at n = sym (ap (next_from file next) l ∙ next_none file next 0) ∙ c.place in
       ap₂ ended s p ∙ skip _ (place_past file next) [] (le-ltb (length file) next h) (done _) ∙ sym (to_end c l (extent file at n))
     where
-      ended : ℕ → ℕ → Answer Extent
+      ended : ℕ → ℕ → Answer Run
       ended a b = accepted (record { samples = a; next = b })

@@ -1,24 +1,24 @@
 -- The answers of the call that lays out a stack, and its lists after it.
 use mathlib.Core.Path.{◌≡◌, sym, ap, ◌∙◌}
 use mathlib.Core.List.{List, [], ◌∷◌}
-use mathlib.Core.Logic.{inl, inr}
+use mathlib.Core.Logic.{◌⊎◌, inl, inr}
 use Prim.Native.Nat.{ℕ, ◌<◌, ◌≤◌}
 use lib.ListN.{length}
 use Rattle.definitions.specs.Refusals.{Check, Answer, accepted, refused, answer, after, wrong_length}
 use Rattle.laws.specs.checks.Checks.{value_is, done, length_stop, length_skip, accepted_too, refused_too, after_accepted, after_refused}
 use Rattle.pgm_format.specs.Stack.{images_from, next_from, images_checks, widths_of, heights_of, joined_samples, read_stack_checks, read_stack}
 use Rattle.pgm_format.specs.Runs.{StackRefusal, frames_over_lem, lists_unequal, images_refused, images_passed, stack_reads}
-use Rattle.pgm.specs.Inner.{Extent}
+use Rattle.pgm.specs.Answers.{Run}
 use Rattle.pgm.proofs.Runs.{extent}
 
 -- ---- a run that was read
 
-module _ (file : List ℕ) (at n : ℕ) {x : Extent} (a : accepted x ≡ answer (images_checks file at n) (extent file at n)) where
+module _ (file : List ℕ) (at n : ℕ) {x : Run} (a : accepted x ≡ answer (images_checks file at n) (extent file at n)) where
   extent_is : x ≡ extent file at n
   extent_is = sym (value_is (images_checks file at n) (sym a))
 
   pub samples_are : x.samples ≡ length (joined_samples file (images_from file at n))
-  samples_are = ap (λ (y : Extent). y.samples) extent_is
+  samples_are = ap (λ (y : Run). y.samples) extent_is
 
   pub images_pass : answer (images_checks file at n) (tt {0}) ≡ accepted tt
   images_pass = accepted_too _ tt (images_checks file at n) (sym a)
@@ -33,11 +33,9 @@ module _ (file : List ℕ) (at w h s : ℕ) where
   refusal : {n : ℕ} {v : List ℕ} → StackRefusal file at w h s n v → refused n v ≡ read_stack file at w h s
   refusal {n} {v} p = sym (((stack_reads file at w h s).refusal n v).1 p)
 
-  pub widths_many : 16 < w → refused 6 [] ≡ read_stack file at w h s
-  widths_many p = refusal (frames_over_lem (inl p))
-
-  pub heights_many : 16 < h → refused 6 [] ≡ read_stack file at w h s
-  heights_many p = refusal (frames_over_lem (inr p))
+  pub frames_many : (16 < w) ⊎ ((w ≤ 16) × (16 < h)) → refused 6 [] ≡ read_stack file at w h s
+  frames_many (inl p) = refusal (frames_over_lem (inl p))
+  frames_many (inr p) = refusal (frames_over_lem (inr p.1))
 
   pub lists_differ : w ≤ 16 → h ≤ 16 → (h ≡ w → ⊥) → refused 2 [] ≡ read_stack file at w h s
   lists_differ q r p = refusal (lists_unequal q r p)
@@ -45,7 +43,7 @@ module _ (file : List ℕ) (at w h s : ℕ) where
   pub run_refused : {n : ℕ} {v : List ℕ} → ListsFit w h → refused n v ≡ answer (images_checks file at w) (extent file at w) → refused n v ≡ read_stack file at w h s
   run_refused p a = sym (images_refused file at w h s p.0 p.1 (refused_too _ (next_from file at w) (images_checks file at w) (sym a)))
 
-  module _ {x : Extent} (a : accepted x ≡ answer (images_checks file at w) (extent file at w)) (p : ListsFit w h) where
+  module _ {x : Run} (a : accepted x ≡ answer (images_checks file at w) (extent file at w)) (p : ListsFit w h) where
     past_images : {r : Answer ℕ}
         → r ≡ answer (wrong_length s (length (joined_samples file (images_from file at w))) ∷ []) (next_from file at w) → r ≡ read_stack file at w h s
     past_images q = q ∙ images_passed file at w h s p.0 p.1 (accepted_too _ _ (images_checks file at w) (sym a))
@@ -54,7 +52,7 @@ module _ (file : List ℕ) (at w h s : ℕ) where
     samples_wrong q = past_images (length_stop _ s _ [] (λ b. q (b ∙ sym (samples_are file at w a))))
 
     pub laid_out : s ≡ x.samples → accepted x.next ≡ read_stack file at w h s
-    laid_out q = ap (λ (y : Extent). accepted y.next) (extent_is file at w a) ∙ past_images (length_skip _ s _ [] (q ∙ samples_are file at w a) (done _))
+    laid_out q = ap (λ (y : Run). accepted y.next) (extent_is file at w a) ∙ past_images (length_skip _ s _ [] (q ∙ samples_are file at w a) (done _))
 
 -- ---- the lists after the call
 

@@ -1,53 +1,79 @@
 -- Numbers and a header put into a buffer, digit by digit and part by part.
 use mathlib.Core.Path.{◌≡◌, refl, sym, ap, ap₂, ◌∙◌}
 use mathlib.Core.List.{List, [], ◌∷◌, ◌++◌, append-nil, append_assoc}
-use Prim.Native.Nat.{ℕ, suc, ◌+◌, ◌-◌, ◌/◌, ◌%◌, ◌<◌, ◌≤◌}
+use mathlib.Core.Logic.{⊎_elim}
+use Prim.Native.Nat.{ℕ, zero, suc, ◌+◌, ◌-◌, ◌*◌, ◌/◌, ◌%◌, ◌^◌, ◌<◌, ◌≤◌}
 use native.Mathlib.Omega.{arith}
 use lib.ListN.{length, set, length-append}
 use lib.Seq.{sets}
 use Rattle.definitions.specs.Decimal.{decimal}
 use Rattle.definitions.specs.Refusals.{Answer, accepted, refused, answer, after}
 use Rattle.laws.specs.checks.Checks.{after_accepted, after_refused}
+use Rattle.laws.specs.general.Cases.{lt_or_le}
 use Rattle.laws.specs.general.Decimals.{decimal_one, decimal_more, decimal_longer, decimal_some}
 use Rattle.laws.specs.general.Writes.{sets_append, sets_front, set_before}
 use Rattle.pgm_format.specs.Pgm.{Frame, header_bytes, pgm, write_checks, write, written}
 
 -- ---- a number, from its last digit on
 
--- The last digits are put from behind `at` up to `end`; those of `rest` are not yet.
+-- how many digits a number has, by the power of ten that it reaches
+pub digits_long : (k n : ℕ) → 10 ^ k ≤ n → n < 10 * 10 ^ k → length (decimal n) ≡ k + 1
+digits_long zero n h g = ap length (decimal_one n g)
+digits_long (suc k) n h g = let e : 10 ^ suc k ≡ 10 * 10 ^ k = omega arith in omega (arith, decimal_longer n (omega (arith, e)), digits_long k (n / 10) (omega (arith, e)) (omega (arith, e)))
+
+-- The last digits are put from `at` up to `end`; those of `rest` are not yet.
 pub record Putting (old : List ℕ) (end n : ℕ) (new : List ℕ) (at rest : ℕ) : Type 0 where
   pub last : List ℕ
   pub parts : decimal n ≡ decimal rest ++ last
-  pub held : new ≡ sets old (suc at) last
-  pub ends : suc at + length last ≡ end
+  pub held : new ≡ sets old at last
+  pub ends : at + length last ≡ end
+  pub room : length (decimal rest) ≤ at
 
-module _ {old new : List ℕ} {end n at rest : ℕ} where
-  -- what is left has room
-  pub putting_room : Putting old end n new at rest → length (decimal n) ≤ end → length (decimal rest) ≤ suc at
-  putting_room p h = omega (arith, p.ends, ap length p.parts, length-append (decimal rest) p.last)
+module _ {old new : List ℕ} {end n at rest : ℕ} (p : Putting old end n new at rest) where
+  -- the digits of the rest end where those put begin
+  pub front_long : end - length (decimal n) + length (decimal rest) ≡ at
+  front_long = omega (arith, p.ends, p.room, ap length p.parts, length-append (decimal rest) p.last)
+
+  -- with room for two digits or more there are as many, and with less there is one
+  pub rest_long : end - length (decimal n) + 1 < at → 10 ≤ rest
+  rest_long h = ⊎_elim (λ (l : rest < 10). absurd (few (ap length (decimal_one rest l)))) (λ (l : 10 ≤ rest). l) (lt_or_le rest 10)
+    where
+      few : length (decimal rest) ≡ 1 → ⊥
+      few e = omega (arith, front_long)
+
+  pub rest_short : at ≤ end - length (decimal n) + 1 → rest < 10
+  rest_short h = ⊎_elim (λ (l : rest < 10). l) (λ (l : 10 ≤ rest). absurd (many l)) (lt_or_le rest 10)
+    where
+      many : 10 ≤ rest → ⊥
+      many l = omega (arith, front_long, decimal_longer rest l, decimal_some (rest / 10))
+
+  pub last_place : at ≤ end - length (decimal n) + 1 → end - length (decimal n) + 1 ≡ at
+  last_place h = omega (arith, front_long, decimal_some rest)
 
   -- the next digit
-  stored : (p : Putting old end n new at rest) (d : ℕ) → set new at d ≡ sets old at (d ∷ p.last)
-  stored p d = ap (λ (l : List ℕ). set l at d) p.held ∙ set_before old p.last at (suc at) d (omega arith)
+  stored : (i : ℕ) → i + 1 ≡ at → (d : ℕ) → set new i d ≡ sets old i (d ∷ p.last)
+  stored i e d = ap (λ (l : List ℕ). set l i d) p.held ∙ set_before old p.last i at d (omega arith) ∙ ap (λ (j : ℕ). sets (set old i d) j p.last) next
+    where
+      next : at ≡ suc i
+      next = omega arith
 
-  pub putting_more : (p : Putting old end n new at rest) → length (decimal n) ≤ end → 10 ≤ rest → Putting old end n (set new at (48 + rest % 10)) (at - 1) (rest / 10)
-  putting_more p h k =
-      let d : ℕ = 48 + rest % 10 in
-      let e : suc (at - 1) ≡ at = omega (arith, putting_room p h, decimal_longer rest k, decimal_some (rest / 10)) in record {
+  pub putting_more : {i : ℕ} → i + 1 ≡ at → 10 ≤ rest → Putting old end n (set new i (48 + rest % 10)) i (rest / 10)
+  putting_more {i} e k =
+      let d : ℕ = 48 + rest % 10 in record {
         last = d ∷ p.last;
         parts = p.parts ∙ ap (λ (l : List ℕ). l ++ p.last) (decimal_more rest k) ∙ append_assoc (decimal (rest / 10)) (d ∷ []) p.last;
-        held = stored p d ∙ ap (λ (m : ℕ). sets old m (d ∷ p.last)) (sym e);
-        ends = omega (arith, p.ends, e);
+        held = stored i e d;
+        ends = omega (arith, p.ends);
+        room = omega (arith, p.room, decimal_longer rest k);
       }
 
-  pub put_all : (p : Putting old end n new at rest) → rest < 10 → set new at (48 + rest) ≡ sets old (end - length (decimal n)) (decimal n)
-  put_all p h =
-      let whole : decimal n ≡ (48 + rest) ∷ p.last = p.parts ∙ ap (λ (l : List ℕ). l ++ p.last) (decimal_one rest h) in
-      let e : at ≡ end - length (decimal n) = omega (arith, p.ends, ap length whole) in
-      stored p (48 + rest) ∙ ap₂ (sets old) e (sym whole)
+  pub put_all : at ≤ end - length (decimal n) + 1 → set new (end - length (decimal n)) (48 + rest) ≡ sets old (end - length (decimal n)) (decimal n)
+  put_all h =
+      stored (end - length (decimal n)) (last_place h) (48 + rest)
+      ∙ ap (sets old (end - length (decimal n))) (sym (p.parts ∙ ap (λ (l : List ℕ). l ++ p.last) (decimal_one rest (rest_short h))))
 
-pub putting_none : (old : List ℕ) (end n : ℕ) → length (decimal n) ≤ end → Putting old end n old (end - 1) n
-putting_none old end n h = record { last = []; parts = sym (append-nil (decimal n)); held = refl; ends = omega (arith, decimal_some n) }
+pub putting_none : (old : List ℕ) (end n : ℕ) → length (decimal n) ≤ end → Putting old end n old end n
+putting_none old end n h = record { last = []; parts = sym (append-nil (decimal n)); held = refl; ends = omega arith; room = h }
 
 -- ---- a header, part by part
 

@@ -1,16 +1,11 @@
 -- The code's answers in document 02's terms: each refusal's number, and each answer as accepted or refused.
-use Rattle.std.specs.Prelude.{ℕ, []}
+use Rattle.std.specs.Prelude.{ℕ, [], Result, Ok, Err}
 use Rattle.definitions.specs.Refusals.{Answer, accepted, refused}
 use Rattle.pgm_format.specs.Pgm as format
 use Rattle.pgm.specs.declared.PgmError.{PgmError}
 use Rattle.pgm.specs.declared.PgmError.TheVariants.{Side, Length, Frames, Header, Highest, Short}
 use Rattle.pgm.specs.declared.Image.{Image}
-use Rattle.pgm.specs.declared.PgmAnswer.{PgmAnswer}
-use Rattle.pgm.specs.declared.PgmAnswer.TheVariants as images
-use Rattle.pgm.specs.declared.WriteAnswer.{WriteAnswer}
-use Rattle.pgm.specs.declared.WriteAnswer.TheVariants as writes
-use Rattle.pgm.specs.declared.stack.StackRead.{StackRead}
-use Rattle.pgm.specs.declared.stack.StackRead.TheVariants as stacks
+use Rattle.pgm.specs.declared.stack.Extent.{Extent}
 
 -- The number of a refusal: 1, 2 and 6 are 01's, the others 02's.
 abbrev pub number_of : PgmError → ℕ
@@ -28,17 +23,15 @@ refusal e = refused (number_of e) []
 abbrev pub image_in : Image → format.Image
 image_in i = record { width = i.width; height = i.height; start = i.start; next = i.next }
 
--- An image, or a refusal.
-abbrev pub pgm_answer : PgmAnswer → Answer format.Image
-pgm_answer (images.Found i) = accepted (image_in i)
-pgm_answer (images.Refused e) = refusal e
+-- How many samples the images of a run have, and the place behind them.
+pub record Run : Type 0 where
+  pub samples : ℕ
+  pub next : ℕ
 
--- The place behind the images of a stack, or a refusal.
-abbrev pub stack_read : StackRead → Answer ℕ
-stack_read (stacks.Laid next) = accepted next
-stack_read (stacks.Refused e) = refusal e
+abbrev pub run_in : Extent → Run
+run_in e = record { samples = e.samples; next = e.next }
 
--- A written file's length, or a refusal.
-abbrev pub write_answer : WriteAnswer → Answer ℕ
-write_answer (writes.Written n) = accepted n
-write_answer (writes.Refused e) = refusal e
+-- What a call returns, as an answer: its value as f shows it, or the refusal.
+abbrev pub answered : {T A : Type 0} → (T → A) → Result T PgmError → Answer A
+answered f (Ok v) = accepted (f v)
+answered f (Err e) = refusal e

@@ -1,21 +1,17 @@
 // The header of an image, read by its place in the file.
-ghost use Rattle.std.specs.Prelude.{◌≡◌, true, false, not, ◌+◌, ◌-◌, ◌*◌, ◌≤◌, eqb, length, get_or, drop};
+ghost use Rattle.std.specs.Prelude.{◌≡◌, true, false, ◌+◌, ◌-◌, ◌*◌, ◌≤◌, eqb, length, get_or, drop};
 ghost use Rattle.definitions.specs.Sum.{bit, sum};
 ghost use Rattle.definitions.specs.Decimal.{is_digit, value_from};
-ghost use Rattle.pgm_format.specs.Pgm.{is_white, after_gap, digits_of, after_digits, is_missing, magic, field_of, header_of};
-ghost use Rattle.pgm.specs.Inner.{From, after_comment, after_white, kept, FieldIs, HeaderIs};
+ghost use Rattle.pgm_format.specs.Pgm.{is_white, after_gap, digits_of, after_digits, one_white, magic, field_of, header_of};
+ghost use Rattle.pgm.specs.Inner.{From, after_comment, kept, PlaceIs, FieldIs, HeaderIs};
+
+// File and place stay two arguments, with `at ≤ length file.now`: the fact is one comparison, and a type would be built anew at each place.
 
 // A number, of which no more than 8,193 is kept, and the place behind its digits.
 #[derive(Clone, Copy)]
 pub(crate) struct Number {
     pub(crate) value: usize,
     pub(crate) next: usize,
-}
-
-#[derive(Clone, Copy)]
-pub(crate) enum FieldRead {
-    Missing,
-    Found(Number),
 }
 
 // The three numbers of a header, kept so too, and where the samples start.
@@ -25,12 +21,6 @@ pub(crate) struct Head {
     pub(crate) height: usize,
     pub(crate) highest: usize,
     pub(crate) start: usize,
-}
-
-#[derive(Clone, Copy)]
-pub(crate) enum HeaderRead {
-    Missing,
-    Found(Head),
 }
 
 // What is kept of a longer number.
@@ -48,16 +38,13 @@ fn is_white(byte: u8) -> bool
 fn is_digit(byte: u8) -> bool
     ensures { result ≡ is_digit byte }
 {
-    b'0' <= byte && byte <= b'9'
+    byte.is_ascii_digit()
 }
 
 fn one_if_line_feed(byte: u8) -> u8
     ensures { result ≡ bit (eqb byte 10) }
 {
-    if byte == b'\n' {
-        return 1;
-    }
-    0
+    u8::from(byte == b'\n')
 }
 
 // How many line feeds there are among the bytes of a block: counted without a branch, so that they are looked at side by side.
@@ -77,28 +64,28 @@ fn after_comment(file: &[u8], at: usize) -> usize
     requires { at ≤ length file.now }
     ensures { From file.now (after_comment (drop at file.now)) result }
 {
-    let mut i = at;
-    while file.len() - i >= BLOCK {
-        if line_feeds(file, i) != 0 {
+    let mut from = at;
+    for _ in 0..(file.len() - at) / BLOCK {
+        if line_feeds(file, from) != 0 {
             break;
         }
-        i += BLOCK;
+        from += BLOCK;
     }
-    while i < file.len() {
+    for i in from..file.len() {
         if file[i] == b'\n' {
             return i + 1;
         }
-        i += 1;
     }
-    i
+    file.len()
 }
 
-// The place behind white space and comments.
+// The place behind white space and comments; the place itself where none stand, as `after_gap` of the format says.
 fn after_gap(file: &[u8], at: usize) -> usize
     requires { at ≤ length file.now }
     ensures { From file.now (after_gap false (drop at file.now)) result }
 {
     let mut i = at;
+    // A comment is passed over at once: how far a turn goes depends on what was read.
     while i < file.len() {
         let byte = file[i];
         if is_white(byte) {
@@ -109,26 +96,18 @@ fn after_gap(file: &[u8], at: usize) -> usize
             return i;
         }
     }
-    i
+    file.len()
 }
 
-// The place behind a white space byte, or the same place where there is none.
-fn after_white(file: &[u8], at: usize) -> usize
+// The place behind a white space byte.
+fn after_white(file: &[u8], at: usize) -> Option<usize>
     requires { at ≤ length file.now }
-    ensures { From file.now (after_white (drop at file.now)) result }
+    ensures { PlaceIs file.now (one_white tt (drop at file.now)) result }
 {
-    if at < file.len() {
-        if is_white(file[at]) {
-            return at + 1;
-        }
+    if at < file.len() && is_white(file[at]) {
+        return Some(at + 1);
     }
-    at
-}
-
-fn wide(byte: u8) -> usize
-    ensures { result ≡ byte }
-{
-    byte as usize
+    None
 }
 
 // A number with one digit more.
@@ -136,82 +115,67 @@ fn with_digit(value: usize, byte: u8) -> usize
     requires { (value ≤ 8193) × (is_digit byte ≡ true) }
     ensures { result ≡ kept (10 * value + (byte - 48)) }
 {
-    let longer = 10 * value + wide(byte - b'0');
-    if longer > ENOUGH {
-        return ENOUGH;
-    }
-    longer
+    let longer = 10 * value + usize::from(byte - b'0');
+    longer.min(ENOUGH)
 }
 
 // The number that the digits from a place on write, 0 where there are none.
+// Its `next` is then the place itself and no `None`, as `after_digits` of the format says.
 fn read_number(file: &[u8], at: usize) -> Number
     requires { at ≤ length file.now }
     ensures { (result.value ≡ kept (value_from 0 (digits_of (drop at file.now))))
         × From file.now (after_digits (drop at file.now)) result.next }
 {
-    let mut value: usize = 0;
-    let mut i = at;
-    while i < file.len() {
-        let byte = file[i];
+    let mut value = 0;
+    for next in at..file.len() {
+        let byte = file[next];
         if !is_digit(byte) {
-            return Number { value, next: i };
+            return Number { value, next };
         }
         value = with_digit(value, byte);
-        i += 1;
     }
-    Number { value, next: i }
+    Number {
+        value,
+        next: file.len(),
+    }
 }
 
-// A number behind white space.
-fn read_field(file: &[u8], at: usize) -> FieldRead
+// A number behind white space. That one of the two is missing is seen by a place that did not move.
+fn read_field(file: &[u8], at: usize) -> Option<Number>
     requires { at ≤ length file.now }
     ensures { FieldIs file.now (field_of (drop at file.now)) result }
 {
     let from = after_gap(file, at);
     if from == at {
-        return FieldRead::Missing;
+        return None;
     }
     let number = read_number(file, from);
     if number.next == from {
-        return FieldRead::Missing;
+        return None;
     }
-    FieldRead::Found(number)
+    Some(number)
 }
 
-// P5 stands at a place.
-fn is_magic(file: &[u8], at: usize) -> bool
-    ensures { result ≡ not (is_missing (magic (drop at file.now))) }
+// The place behind P5.
+fn after_magic(file: &[u8], at: usize) -> Option<usize>
+    ensures { PlaceIs file.now (magic (drop at file.now)) result }
 {
-    if at >= file.len() {
-        return false;
+    if file.len().saturating_sub(at) >= 2 && file[at] == b'P' && file[at + 1] == b'5' {
+        return Some(at + 2);
     }
-    if file.len() - at < 2 {
-        return false;
-    }
-    file[at] == b'P' && file[at + 1] == b'5'
+    None
 }
 
 // The header at a place, which may lie past the end.
-pub(crate) fn read_header(file: &[u8], at: usize) -> HeaderRead
+pub(crate) fn read_header(file: &[u8], at: usize) -> Option<Head>
     ensures { HeaderIs file.now (header_of (drop at file.now)) result }
 {
-    if !is_magic(file, at) {
-        return HeaderRead::Missing;
-    }
-    let FieldRead::Found(width) = read_field(file, at + 2) else {
-        return HeaderRead::Missing;
-    };
-    let FieldRead::Found(height) = read_field(file, width.next) else {
-        return HeaderRead::Missing;
-    };
-    let FieldRead::Found(highest) = read_field(file, height.next) else {
-        return HeaderRead::Missing;
-    };
-    let start = after_white(file, highest.next);
-    if start == highest.next {
-        return HeaderRead::Missing;
-    }
-    HeaderRead::Found(Head {
+    let sizes = after_magic(file, at)?;
+    let width = read_field(file, sizes)?;
+    let height = read_field(file, width.next)?;
+    let highest = read_field(file, height.next)?;
+    let start = after_white(file, highest.next)?;
+    Some(Head {
         width: width.value,
         height: height.value,
         highest: highest.value,

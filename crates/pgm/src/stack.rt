@@ -4,19 +4,12 @@ ghost use Rattle.definitions.specs.Refusals.{Check, accepted, answer, after};
 ghost use Rattle.pgm_format.specs.Pgm as format;
 ghost use Rattle.pgm_format.specs.Pgm.{read_checks, image_read};
 ghost use Rattle.pgm_format.specs.Stack.{images_from, next_from, images_checks, widths_of, heights_of, joined_samples, read_stack_checks, read_stack};
-ghost use Rattle.pgm.specs.Answers.{image_in, stack_read};
-ghost use Rattle.pgm.specs.Inner.{run_read};
+ghost use Rattle.pgm.specs.Answers.{image_in, run_in, answered};
 
-use super::{Image, PgmAnswer, PgmError, put_samples, read};
+use super::{Image, PgmError, put_samples, read};
 
 // What a stack has no more of.
 const MOST_FRAMES: usize = 16;
-
-#[derive(Clone, Copy)]
-pub enum StackRead {
-    Laid(usize),
-    Refused(PgmError),
-}
 
 // How many samples the images of a run have, and the place behind them.
 #[derive(Clone, Copy)]
@@ -25,35 +18,23 @@ pub(crate) struct Extent {
     next: usize,
 }
 
-#[derive(Clone, Copy)]
-pub(crate) enum RunRead {
-    Whole(Extent),
-    Refused(PgmError),
-}
-
 // Reads n images from a place on, and keeps none.
-fn read_run(file: &[u8], at: usize, n: usize) -> RunRead
+fn read_run(file: &[u8], at: usize, n: usize) -> Result<Extent, PgmError>
     requires { n ≤ 16 }
-    ensures { run_read result ≡ answer (images_checks file.now at n)
+    ensures { answered run_in result ≡ answer (images_checks file.now at n)
         (record { samples = length (joined_samples file.now (images_from file.now at n)); next = next_from file.now at n }) }
 {
-    let mut samples: usize = 0;
+    let mut samples = 0;
     let mut next = at;
-    let mut k: usize = 0;
-    while k < n {
-        match read(file, next) {
-            PgmAnswer::Found(image) => {
-                samples += image.next - image.start;
-                next = image.next;
-            }
-            PgmAnswer::Refused(e) => return RunRead::Refused(e),
-        }
-        k += 1;
+    for _ in 0..n {
+        let image = read(file, next)?;
+        samples += image.next - image.start;
+        next = image.next;
     }
     if next > file.len() {
-        return RunRead::Refused(PgmError::Header);
+        return Err(PgmError::Header);
     }
-    RunRead::Whole(Extent { samples, next })
+    Ok(Extent { samples, next })
 }
 
 // The image at a place where one was read before.
@@ -61,18 +42,11 @@ fn image_at(file: &[u8], at: usize) -> Image
     requires { answer (read_checks file.now at) (tt {0}) ≡ accepted tt }
     ensures { image_in result ≡ image_read file.now at }
 {
-    match read(file, at) {
-        PgmAnswer::Found(image) => image,
-        PgmAnswer::Refused(_) => Image {
-            width: 0,
-            height: 0,
-            start: 0,
-            next: 0,
-        },
-    }
+    read(file, at).unwrap()
 }
 
 // Lays out the images of a run that was read before.
+// By number: of two lists written side by side, by `zip` of their `iter_mut`s, a proof knows no element after.
 fn lay(file: &[u8], at: usize, widths: &mut [usize], heights: &mut [usize], samples: &mut [u8])
     requires { (length heights.old ≡ length widths.old)
         × (answer (images_checks file.now at (length widths.old)) (tt {0}) ≡ accepted tt)
@@ -82,9 +56,8 @@ fn lay(file: &[u8], at: usize, widths: &mut [usize], heights: &mut [usize], samp
     ensures samples { samples.new ≡ joined_samples file.now (images_from file.now at (length widths.old)) }
 {
     let mut place = at;
-    let mut from: usize = 0;
-    let mut k: usize = 0;
-    while k < widths.len() {
+    let mut from = 0;
+    for k in 0..widths.len() {
         let image = image_at(file, place);
         widths[k] = image.width;
         heights[k] = image.height;
@@ -92,44 +65,39 @@ fn lay(file: &[u8], at: usize, widths: &mut [usize], heights: &mut [usize], samp
         put_samples(samples, from, part);
         from += part.len();
         place = image.next;
-        k += 1;
     }
 }
 
-// Lays the images from a place on out as a stack, as many as there are widths.
+/// Lays the images from a place on out as a stack, as many as there are widths; answers the place behind the last one.
+/// `Frames` if there are more than 16 widths or heights; `Length` if there are not as many heights as widths; then as the first image that
+/// `read` refuses, or `Header` if the place is past the end of the file; then `Length` if the images have not as many samples as there is
+/// room for.
 pub fn read_stack(
     file: &[u8],
     at: usize,
     widths: &mut [usize],
     heights: &mut [usize],
     samples: &mut [u8],
-) -> StackRead
+) -> Result<usize, PgmError>
     ensures { (let n : ℕ = length widths.old in
         let checks : List Check = read_stack_checks file.now at n (length heights.old) (length samples.old) in
         let images : List format.Image = images_from file.now at n in
-        (stack_read result ≡ read_stack file.now at n (length heights.old) (length samples.old))
+        (answered (λ next. next) result ≡ read_stack file.now at n (length heights.old) (length samples.old))
         × (widths.new ≡ after checks (widths_of images) widths.old)
         × (heights.new ≡ after checks (heights_of images) heights.old)
         × (samples.new ≡ after checks (joined_samples file.now images) samples.old)) }
 {
     let n = widths.len();
-    if n > MOST_FRAMES {
-        return StackRead::Refused(PgmError::Frames);
-    }
-    if heights.len() > MOST_FRAMES {
-        return StackRead::Refused(PgmError::Frames);
+    if n > MOST_FRAMES || heights.len() > MOST_FRAMES {
+        return Err(PgmError::Frames);
     }
     if heights.len() != n {
-        return StackRead::Refused(PgmError::Length);
+        return Err(PgmError::Length);
     }
-    match read_run(file, at, n) {
-        RunRead::Refused(e) => StackRead::Refused(e),
-        RunRead::Whole(run) => {
-            if samples.len() != run.samples {
-                return StackRead::Refused(PgmError::Length);
-            }
-            lay(file, at, widths, heights, samples);
-            StackRead::Laid(run.next)
-        }
+    let run = read_run(file, at, n)?;
+    if samples.len() != run.samples {
+        return Err(PgmError::Length);
     }
+    lay(file, at, widths, heights, samples);
+    Ok(run.next)
 }

@@ -10,28 +10,22 @@ use super::put_bytes;
 pub(crate) fn digits(n: usize) -> usize
     ensures { result ≡ length (decimal n) }
 {
-    let mut count: usize = 1;
-    let mut left = n;
-    while left >= 10 {
-        count += 1;
-        left /= 10;
-    }
-    count
+    n.checked_ilog10().unwrap_or(0) as usize + 1
 }
 
 // Puts a number in decimal into a buffer, up to `end`.
+// By hand, where steps has `io::decimal`: pgm would stand on io for it, with steps' law of it beside.
 fn put_decimal(file: &mut [u8], end: usize, n: usize)
     requires { (length (decimal n) ≤ end) × (end ≤ length file.old) }
     ensures { file.new ≡ sets file.old (end - length (decimal n)) (decimal n) }
 {
-    let mut at = end - 1;
+    let first = end - digits(n);
     let mut rest = n;
-    while rest >= 10 {
+    for at in (first + 1..end).rev() {
         file[at] = (48 + rest % 10) as u8;
-        at -= 1;
         rest /= 10;
     }
-    file[at] = (48 + rest) as u8;
+    file[first] = (48 + rest) as u8;
 }
 
 // Puts a header at the front of a buffer: the width up to the blank, the height up to the line feed behind it.

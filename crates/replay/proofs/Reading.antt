@@ -1,39 +1,11 @@
 -- A line that is read character by character.
-use mathlib.Core.Path.{◌≡◌, sym, ap, ◌∙◌, subst}
-use mathlib.Core.Bool.{Bool, false, ◌&&◌, ◌||◌}
-use mathlib.Core.List.{List, [], ◌∷◌}
-use Prim.Native.Nat.{ℕ, suc, ◌+◌, ◌-◌, ◌*◌, ◌≤◌, ◌<◌}
-use native.Mathlib.Numerals.{add-one}
-use native.Mathlib.Omega.{arith}
-use borrow.Author.Tests.{lt-ltb, le-ltb, le-leb, lt-leb, eq-eqb, ne_eqb}
-use lib.Dec.{leb, eqb}
-use lib.ListN.{length, get_or, drop, set, drop_of_length-le}
-use lib.Seq.{sets, drop-cons}
-use Rattle.definitions.specs.Decimal.{is_digit}
-use Rattle.replay.specs.Lines.{with_digit, grown, number, numbers_from, numbers_of, line_length}
-use Rattle.laws.specs.general.Cases.{cond_true, cond_false, and_yes, and_no}
-
--- ---- a digit
-
-pub digit_within : (n d : ℕ) → n * 10 + d < 18446744073709551616 → with_digit n d ≡ n * 10 + d
-unfolding with_digit
-digit_within n d h = cond_true (n * 10 + d) 0 (lt-ltb (n * 10 + d) 18446744073709551616 h)
-
-pub digit_past : (n d : ℕ) → 18446744073709551616 ≤ n * 10 + d → with_digit n d ≡ 0
-unfolding with_digit
-digit_past n d h = cond_false (n * 10 + d) 0 (le-ltb (n * 10 + d) 18446744073709551616 h)
-
-pub grown_below : (n c : ℕ) → c < 48 → grown n c ≡ n
-unfolding is_digit grown
-grown_below n c h = cond_false (with_digit n (c - 48)) n (ap (λ (t : Bool). t && leb c 57) (lt-leb 48 c h))
-
-pub grown_above : (n c : ℕ) → 57 < c → grown n c ≡ n
-unfolding is_digit grown
-grown_above n c h = cond_false (with_digit n (c - 48)) n (and_no (leb 48 c) (lt-leb c 57 h))
-
-pub grown_digit : (n c : ℕ) → 48 ≤ c → c ≤ 57 → grown n c ≡ with_digit n (c - 48)
-unfolding is_digit grown
-grown_digit n c h l = cond_true (with_digit n (c - 48)) n (and_yes (le-leb 48 c h) (le-leb c 57 l))
+use Rattle.std.specs.Prelude.{◌≡◌, ℕ, suc, ◌+◌, ◌≤◌, ◌<◌, max, Bool, false, ◌||◌, List, [], ◌∷◌, eqb, length, get_or, drop, set}
+use Rattle.std.proofs.Common.{sym, ap, ◌∙◌, subst, arith, add-one, drop_of_length-le}
+use Rattle.std.proofs.Math.Seq.{drop-cons}
+use Rattle.std.proofs.lemmas.List.Edits.{sets}
+use borrow.Author.Tests.{eq-eqb, ne_eqb}
+use Rattle.laws.specs.general.Cases.{cond_true, cond_false}
+use Rattle.replay.specs.Lines.{grown, number, numbers_from, numbers_of, line_length}
 
 -- ---- a character of the line
 
@@ -66,6 +38,7 @@ pub record Left (text : List ℕ) (at : ℕ) (old new : List ℕ) (count : ℕ) 
   pub counted : count + length (numbers_from negative n (drop next text)) ≡ length (numbers_of (drop at text))
   pub reached : next + line_length (drop next text) ≡ at + line_length (drop at text)
   pub few : count ≤ next
+  pub near : next ≤ max at (length text)
 
 -- What read_line answers.
 pub record Read (text : List ℕ) (at : ℕ) (old new : List ℕ) (count next : ℕ) : Type 0 where
@@ -77,12 +50,13 @@ pub read_as : {text old new new' : List ℕ} {at count next : ℕ} → new' ≡ 
 read_as e r = record { stored = e ∙ r.stored; counted = r.counted; reached = r.reached }
 
 -- the same state by other names
-pub left_as : {text old new new' : List ℕ} {at count n n' next : ℕ} {negative negative' : Bool} → new' ≡ new → negative' ≡ negative → n' ≡ n
-    → Left text at old new count negative n next → Left text at old new' count negative' n' next
-left_as {text} {old} {new} {new'} {at} {count} {n} {n'} {next} {negative} {negative'} e f g l =
-    subst (λ (x : List ℕ). Left text at old x count negative' n' next) (sym e)
+pub left_as : {text old new new' : List ℕ} {at count count' n n' next : ℕ} {negative negative' : Bool} → new' ≡ new → count' ≡ count → negative' ≡ negative → n' ≡ n
+    → Left text at old new count negative n next → Left text at old new' count' negative' n' next
+left_as {text} {old} {new} {new'} {at} {count} {count'} {n} {n'} {next} {negative} {negative'} e d f g l =
+    subst (λ (x : List ℕ). Left text at old x count' negative' n' next) (sym e)
+    (subst (λ (x : ℕ). Left text at old new x negative' n' next) (sym d)
     (subst (λ (x : Bool). Left text at old new count x n' next) (sym f)
-    (subst (λ (x : ℕ). Left text at old new count negative x next) (sym g) l))
+    (subst (λ (x : ℕ). Left text at old new count negative x next) (sym g) l)))
 
 -- the text ends
 pub left_over : {text old new : List ℕ} {at count n next : ℕ} {negative : Bool} → Left text at old new count negative n next → length text ≤ next
@@ -127,6 +101,7 @@ module _ {text old new : List ℕ} {at count n next : ℕ} {negative : Bool} (l 
         counted = omega (arith, l.counted, ap length p);
         reached = omega (arith, l.reached, ap line_length split, long_more char more (λ z. omega arith));
         few = omega (arith, l.few);
+        near = omega arith;
       }
 
   -- a number goes on
@@ -138,4 +113,5 @@ module _ {text old new : List ℕ} {at count n next : ℕ} {negative : Bool} (l 
         counted = omega (arith, l.counted, ap length p);
         reached = omega (arith, l.reached, ap line_length split, long_more char more e);
         few = omega (arith, l.few);
+        near = omega arith;
       }

@@ -1,9 +1,7 @@
 -- Answers as the numbers that end a line.
-use Rattle.std.specs.Prelude.{ℕ, ◌≤◌, ◌≡◌, cond, List, ◌∷◌, eqb, length, get_or, drop}
+use Rattle.std.specs.Prelude.{ℕ, ◌≤◌, ◌≡◌, cond, List, ◌∷◌, Result, Ok, Err, eqb, length, get_or, drop}
 use Rattle.mtb_align.specs.Answers.{number_of, values_of}
 use Rattle.mtb_align.specs.declared.error.Error.{Error}
-use Rattle.mtb_align.specs.declared.error.Outcome.{Outcome}
-use Rattle.mtb_align.specs.declared.error.Outcome.TheVariants.{Done, Refused}
 use Rattle.mtb_align.specs.declared.shrink.Shrink.{Shrink}
 use Rattle.mtb_align.specs.declared.shrink.Shrink.TheVariants.{Average, Subsample}
 use Rattle.replay.specs.Lists.{Marked}
@@ -13,9 +11,9 @@ abbrev pub refusal_line : Error → List ℕ
 refusal_line e = number_of e ∷ length (values_of e) ∷ values_of e
 
 -- The line ends with this answer of a call that writes bytes: 0 and the list that it wrote, or a refusal, which left the marks.
-abbrev pub BytesAnswer : List ℕ → Outcome → List ℕ → Type 0
-BytesAnswer line Done got = line ≡ 0 ∷ length got ∷ got
-BytesAnswer line (Refused e) got = (line ≡ refusal_line e) × Marked 165 got
+abbrev pub BytesAnswer : List ℕ → Result (Unit {0}) Error → List ℕ → Type 0
+BytesAnswer line (Ok done) got = line ≡ 0 ∷ length got ∷ got
+BytesAnswer line (Err e) got = (line ≡ refusal_line e) × Marked 165 got
 
 -- Scratch keeps the mark past a number of bytes and a number of words, with which the line begins.
 pub record PastMarked (line bytes words : List ℕ) : Type 0 where

@@ -1,11 +1,7 @@
--- What a test answers, and how numbers of a line are read.
-use Rattle.std.specs.Prelude.{ℕ, ◌-◌, ◌*◌, ◌%◌, ◌≡◌, Bool, true, cond, ◌&&◌, List, ltb, leb, ℤ, pos, ◌-ℤ◌, length, replicate}
+-- What lists are held against, and how numbers of a line are read.
+use Rattle.std.specs.Prelude.{ℕ, ◌-◌, ◌*◌, ◌%◌, ◌≡◌, cond, ◌&&◌, List, ltb, leb, ℤ, pos, ◌-ℤ◌, length, replicate}
 use Rattle.definitions.specs.Build.{build}
 use Rattle.definitions.specs.Report.{field_of}
-
--- A test's answer: yes just where the claim holds.
-abbrev pub Whether : Bool → Type 0 → Type 0
-Whether answer claim = (answer ≡ true → claim) × (claim → answer ≡ true)
 
 -- Every entry is the mark.
 abbrev pub Marked : {A : Type 0} → A → List A → Type 0

@@ -1,37 +1,41 @@
 // Answers of calls held against the end of a line, and what the calls on two frames and on stacks share.
-ghost use Rattle.std.specs.Prelude.{◌≡◌, ◌∷◌, ◌%◌, length, get_or};
+ghost use Rattle.std.specs.Prelude.{◌≡◌, ◌∷◌, ◌%◌, map, length, get_or};
+ghost use Rattle.std.specs.Bool.{Decides};
 ghost use Rattle.std.proofs.lemmas.List.Edits.{sets};
-ghost use Rattle.replay.specs.Lists.{Whether};
 ghost use Rattle.replay.specs.Answers.{refusal_line, BytesAnswer, PastMarked, mode_at};
 
-use super::{at, marked_bytes, marked_words, same_bytes, same_words};
+use super::{Number, at, marked, same};
 use mtb_align::align::Options;
-use mtb_align::error::{Error, Outcome};
+use mtb_align::error::Error;
 use mtb_align::shrink::Shrink;
 
+/// How a frame is halved: 1 for `Subsample`, and else `Average`.
+// By a number, as the vectors have it.
 pub fn mode(subsampled: usize) -> Shrink
     ensures { result ≡ mode_at subsampled }
 {
-    if subsampled == 1 {
-        return Shrink::Subsample;
+    match subsampled {
+        1 => Shrink::Subsample,
+        _ => Shrink::Average,
     }
-    Shrink::Average
 }
 
-// The low 32 bits.
+/// The low 32 bits.
+// By `%`, here and in `byte`: a cast may lose no bits, and `try_from` would refuse what is cut.
 pub fn bits32(n: usize) -> u32
     ensures { result ≡ n % 4294967296 }
 {
     (n % 4294967296) as u32
 }
 
+/// The low 8 bits.
 pub fn byte(n: usize) -> u8
     ensures { result ≡ n % 256 }
 {
     (n % 256) as u8
 }
 
-// The options that the numbers begin with.
+/// The options that the numbers begin with.
 pub fn options(numbers: &[u64]) -> Options
     ensures bits_value { result.bits ≡ get_or numbers.now 0 0 % 4294967296 }
     ensures tolerance_value { result.tolerance ≡ get_or numbers.now 1 0 % 256 }
@@ -44,39 +48,35 @@ pub fn options(numbers: &[u64]) -> Options
     }
 }
 
-// Sizes as words, as far as both lists reach.
+/// Sizes as words, stored as far as both lists reach.
 pub fn words_of(sizes: &[usize], out: &mut [u64])
     ensures { out.new ≡ sets out.old 0 sizes.now }
 {
-    let mut i: usize = 0;
-    while i < out.len() {
-        if i >= sizes.len() {
-            return;
-        }
+    for i in 0..out.len().min(sizes.len()) {
         out[i] = sizes[i] as u64;
-        i += 1;
     }
 }
 
-// The numbers are a refusal: its number, and its values behind their count.
+/// Whether the numbers are a refusal: its number, and its values behind their count.
 pub fn refusal_agrees(numbers: &[u64], e: Error) -> bool
-    ensures { Whether result (numbers.now ≡ refusal_line e) }
+    ensures { Decides result (numbers.now ≡ refusal_line e) }
 {
-    let number = e.number() as u64;
+    let number = u64::from(e.number());
     match e {
-        Error::SizeMismatch(r, t) => {
-            let list = [
+        Error::SizeMismatch(r, t) => same(
+            numbers,
+            &[
                 number,
                 4,
                 r.width as u64,
                 r.height as u64,
                 t.width as u64,
                 t.height as u64,
-            ];
-            same_words(numbers, &list)
-        }
-        Error::FrameMismatch(n, t, k) => {
-            let list = [
+            ],
+        ),
+        Error::FrameMismatch(n, t, k) => same(
+            numbers,
+            &[
                 number,
                 5,
                 n.width as u64,
@@ -84,74 +84,38 @@ pub fn refusal_agrees(numbers: &[u64], e: Error) -> bool
                 t.width as u64,
                 t.height as u64,
                 k as u64,
-            ];
-            same_words(numbers, &list)
-        }
-        Error::NoSuchReference(r, n) => {
-            let list = [number, 2, r as u64, n as u64];
-            same_words(numbers, &list)
-        }
-        Error::Records(needed) => {
-            let list = [number, 1, needed as u64];
-            same_words(numbers, &list)
-        }
-        _ => {
-            let list = [number, 0];
-            same_words(numbers, &list)
-        }
+            ],
+        ),
+        Error::NoSuchReference(r, n) => same(numbers, &[number, 2, r as u64, n as u64]),
+        Error::Records(needed) => same(numbers, &[number, 1, needed as u64]),
+        _ => same(numbers, &[number, 0]),
     }
 }
 
-// The numbers are 0, how many bytes there are, and the bytes.
-pub fn bytes_listed(numbers: &[u64], got: &[u8]) -> bool
-    ensures { Whether result (numbers.now ≡ 0 ∷ length got.now ∷ got.now) }
+/// Whether the numbers are 0, how many entries there are, and the entries.
+pub fn listed<T: Number>(numbers: &[u64], got: &[T]) -> bool
+    ensures { Decides result (numbers.now ≡ 0 ∷ length got.now ∷ map T.number got.now) }
 {
-    if numbers.len() < 2 {
-        return false;
+    match numbers {
+        [0, n, entries @ ..] => *n == got.len() as u64 && same(entries, got),
+        _ => false,
     }
-    if numbers[0] != 0 {
-        return false;
-    }
-    if numbers[1] != got.len() as u64 {
-        return false;
-    }
-    same_bytes(&numbers[2..], got)
 }
 
-// The numbers are 0, how many words there are, and the words.
-pub fn words_listed(numbers: &[u64], got: &[u64]) -> bool
-    ensures { Whether result (numbers.now ≡ 0 ∷ length got.now ∷ got.now) }
-{
-    if numbers.len() < 2 {
-        return false;
-    }
-    if numbers[0] != 0 {
-        return false;
-    }
-    if numbers[1] != got.len() as u64 {
-        return false;
-    }
-    same_words(&numbers[2..], got)
-}
-
-// The numbers are the answer of a call that writes these bytes, which have the mark where it is refused.
-pub fn bytes_agree(numbers: &[u64], answer: Outcome, got: &[u8]) -> bool
-    ensures { Whether result (BytesAnswer numbers.now answer got.now) }
+/// Whether the numbers are the answer of a call that writes these bytes, which have the mark where it is refused.
+#[tactic(auto, using(crate::proofs::Entries::themselves))]
+pub fn bytes_agree(numbers: &[u64], answer: Result<(), Error>, got: &[u8]) -> bool
+    ensures { Decides result (BytesAnswer numbers.now answer got.now) }
 {
     match answer {
-        Outcome::Done => bytes_listed(numbers, got),
-        Outcome::Refused(e) => {
-            if !refusal_agrees(numbers, e) {
-                return false;
-            }
-            marked_bytes(got)
-        }
+        Ok(()) => listed(numbers, got),
+        Err(e) => refusal_agrees(numbers, e) && marked(got),
     }
 }
 
-// How many bytes and words at the start of scratch may have lost the mark is what the numbers begin with; all others still have it.
+/// Whether scratch keeps the mark but for as many bytes and words at the start of it as the numbers begin with.
 pub fn past_marked(numbers: &[u64], bytes: &[u8], words: &[u64]) -> bool
-    ensures { Whether result (PastMarked numbers.now bytes.now words.now) }
+    ensures { Decides result (PastMarked numbers.now bytes.now words.now) }
 {
     let free = at(numbers, 0);
     if free > bytes.len() {
@@ -161,8 +125,5 @@ pub fn past_marked(numbers: &[u64], bytes: &[u8], words: &[u64]) -> bool
     if free_words > words.len() {
         return false;
     }
-    if !marked_bytes(&bytes[free..]) {
-        return false;
-    }
-    marked_words(&words[free_words..])
+    marked(&bytes[free..]) && marked(&words[free_words..])
 }

@@ -8,6 +8,7 @@ use std::io::Read;
 // One byte more than eight frames have.
 const INPUT: usize = 32769;
 
+// Read into an array of this program's own size: a function for all would be generic in it and stand in a crate that all five need.
 fn main(rt: HostRuntime) -> io::Result<()> {
     let mut input = [0u8; INPUT];
     let n = io::copy(

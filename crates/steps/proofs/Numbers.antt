@@ -1,13 +1,16 @@
 -- Numbers in decimal digits, and whole numbers by their sign and size.
 use mathlib.Core.Path.{◌≡◌, refl, sym, ap, ap₂, ◌∙◌}
-use mathlib.Core.Bool.{Bool, true, false, cond}
+use mathlib.Core.Bool.{true, false}
 use mathlib.Core.List.{List, [], ◌∷◌, ◌++◌}
-use Prim.Native.Nat.{ℕ, zero, suc, ◌+◌, ◌-◌, ◌/◌, ◌%◌, ◌≤◌, ◌<◌}
+use Prim.Native.Nat.{ℕ, zero, suc, ◌+◌, ◌/◌, ◌%◌, ◌<◌}
 use native.Mathlib.Numerals.{unary_clauses}
 use native.Mathlib.Omega.{arith}
-use borrow.Author.Tests.{lt-ltb, le-ltb}
+use borrow.Author.Tests.{lt-ltb}
 use lib.IntN.{ℤ, pos, negsuc, nat_abs}
 use lib.Signed.{lt_z}
+use Rattle.std.proofs.Common.{to_z, of_z, w32}
+use Rattle.std.proofs.lemmas.Int.{of_z-to_z}
+use Rattle.std.proofs.lemmas.Bool.Decides.{nat_tests}
 use Rattle.io.specs.Digits.{hex_digit_ascii, last_digits, IsDigitCount}
 use Rattle.definitions.specs.Decimal.{decimal}
 use Rattle.definitions.specs.Geometry.{behind}
@@ -48,14 +51,10 @@ sign_below {y} {z} e t = omega (arith, lt_true y (pos 0) t, ap behind e)
 pub sign_above : {y z : ℤ} → y ≡ z → lt_z y (pos 0) ≡ false → behind z ≡ 0
 sign_above {y} {z} e t = omega (arith, lt_false y (pos 0) t, alone y, ap behind e)
 
--- 32 bits by two's complement
-pub signed_below : (n : ℕ) → 2147483648 ≤ n → n < 4294967296 → ascii "-" ++ decimal (4294967296 - n) ≡ integer (signed_of n)
-unfolding integer signed_of
-signed_below n h k =
-    let e : 4294967296 - n ≡ suc (4294967295 - n) = omega arith in
-    ap (λ (m : ℕ). ascii "-" ++ decimal m) e
-    ∙ sym (ap (λ (t : Bool). integer (cond t (pos n) (negsuc (4294967295 - n)))) (le-ltb n 2147483648 h))
+-- 32 bits by two's complement, as a cast has them
+signed_is : (n : ℕ) → n < 4294967296 → to_z w32 n ≡ signed_of n
+unfolding signed_of
+signed_is n h = grind (arith, nat_tests)
 
-pub signed_above : (n : ℕ) → n < 2147483648 → decimal n ≡ integer (signed_of n)
-unfolding integer signed_of
-signed_above n h = sym (ap (λ (t : Bool). integer (cond t (pos n) (negsuc (4294967295 - n)))) (lt-ltb n 2147483648 h))
+pub signed_cast : {z : ℤ} {n m : ℕ} → z ≡ to_z w32 n → n < 4294967296 → n ≡ m → to_z w32 (of_z w32 z) ≡ signed_of m
+signed_cast {z} {n} e h q = ap (λ (x : ℤ). to_z w32 (of_z w32 x)) e ∙ ap (to_z w32) (of_z-to_z w32 n h) ∙ signed_is n h ∙ ap signed_of q

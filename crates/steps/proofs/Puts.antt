@@ -2,12 +2,13 @@
 use mathlib.Core.Path.{◌≡◌, refl, sym, ap, ap₂, ◌∙◌, subst}
 use mathlib.Core.List.{List, [], ◌∷◌, ◌++◌}
 use mathlib.Core.Logic.{⊎_elim}
-use Prim.Native.Nat.{ℕ, suc, ◌+◌, ◌≤◌, ◌<◌, min}
+use Prim.Native.Nat.{ℕ, suc, ◌+◌, ◌-◌, ◌≤◌, ◌<◌, min}
 use native.Mathlib.Omega.{arith}
-use lib.ListN.{length, take, drop, set, length-append}
+use lib.ListN.{length, take, drop, set, length-append, length-take, take-append-drop, drop_of_length-le}
 use lib.Seq.{sets, length-sets, drop-nil}
 use Rattle.laws.specs.general.Cases.{lt_or_le}
 use Rattle.laws.specs.general.Writes.{sets_append, sets_out}
+use Rattle.mtb_align.proofs.Parts.{put_part}
 use Rattle.steps.specs.Inner.{Put}
 
 -- no text
@@ -20,6 +21,24 @@ ends_out l t i = ⊎_elim
     (λ (h : length l < i). sets_out l t (min i (length l)) (omega arith) ∙ sym (sets_out l t i (omega arith)))
     (λ (h : i ≤ length l). let e : min i (length l) ≡ i = omega arith in ap (λ (k : ℕ). sets l k t) e)
     (lt_or_le (length l) i)
+
+-- as much of a text as there is room for, copied
+pub put_copied : (old text : List ℕ) (at : ℕ) {n m : ℕ} {part : List ℕ} → at ≤ length old → n ≡ min (length text) (length old - at) → m ≡ n → part ≡ take n text
+    → Put old at text (take at old ++ (part ++ drop m (drop at old))) (at + n)
+put_copied old text at {n} {m} {part} h e q p =
+    let long : length (take n text) ≡ n = length-take n text ∙ omega arith in
+    let l = sets old at (take n text) in
+    let all : sets old at text ≡ sets l (at + length (take n text)) (drop n text) =
+    ap (sets old at) (sym (take-append-drop n text)) ∙ sets_append old at (take n text) (drop n text) in
+    record {
+      held =
+          put_part old (take n text) at m (omega arith) (long ∙ sym q) p
+          ∙ sym (all ∙ ⊎_elim
+          (λ (r : n < length text). sets_out l (drop n text) (at + length (take n text)) (omega (arith, length-sets old at (take n text))))
+          (λ (r : length text ≤ n). ap (sets l (at + length (take n text))) (drop_of_length-le text {i = n} r))
+          (lt_or_le n (length text)));
+      ends = omega arith;
+    }
 
 -- a text and then another
 pub put_then : {old mid new : List ℕ} {at m next : ℕ} {s t : List ℕ} → Put old at s mid m → Put mid m t new next → Put old at (s ++ t) new next

@@ -3,6 +3,7 @@ use Rattle.std.specs.Prelude.{ℕ, ◌+◌, ◌*◌, min, ◌≡◌, List, ◌++
 use Rattle.std.proofs.lemmas.List.Edits.{sets}
 use Rattle.definitions.specs.Build.{build, keep_if}
 use Rattle.definitions.specs.Report.{Record, record_at}
+use Rattle.steps.specs.declared.records.Record as code
 use Rattle.steps.specs.Text.{frame_line, lines_of_records}
 
 -- A text that is put into a buffer from a place on, as far as there is room: what the buffer holds then, and where the next byte goes.
@@ -12,6 +13,10 @@ pub record Put (old : List ℕ) (at : ℕ) (text new : List ℕ) (next : ℕ) : 
   pub ends : next ≡ min (at + length text) (length old)
 
 -- ---- records, 20 bytes each
+
+-- A record that is read from its bytes.
+abbrev pub record_in : code.Record → Record
+record_in e = record { frame = e.frame; shift = record { x = e.x; y = e.y }; counts = record { disagreeing = e.disagreeing; compared = e.compared } }
 
 -- The records of frame k among the first n that a list of bytes holds.
 unfoldable pub records_of : List ℕ → ℕ → ℕ → List Record

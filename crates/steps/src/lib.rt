@@ -1,10 +1,11 @@
 // The text that the program stacksteps prints for its input: the report of up to eight frames of 64 by 64 samples.
+// `out` and `at` stay two parameters: see text.rt.
 #![tactic(auto)]
 
 mod records;
 mod text;
 
-ghost use Rattle.std.specs.Prelude.{◌≡◌, cond, ◌++◌, ◌+◌, ◌*◌, ◌≤◌, ◌<◌, min, eqb, length, take, drop, replicate};
+ghost use Rattle.std.specs.Prelude.{◌≡◌, cond, ◌++◌, ◌+◌, ◌*◌, ◌/◌, ◌%◌, ◌≤◌, ◌<◌, min, eqb, length, take, drop, replicate};
 ghost use Rattle.definitions.specs.Build.{joined};
 ghost use Rattle.definitions.specs.Geometry.{listed};
 ghost use Rattle.definitions.specs.Align as stacks;
@@ -17,8 +18,7 @@ ghost use Rattle.steps.specs.Inner.{Put, frame_text_in};
 
 use mtb_align::align::Options;
 use mtb_align::geometry::Rect;
-use mtb_align::report::{ReportAnswer, Summary, Terms};
-use mtb_align::shrink::Shrink;
+use mtb_align::report::{Summary, Terms};
 use records::{RECORD_BYTES, number_of, put_records};
 use text::{put_byte, put_bytes, put_coordinate, put_next, put_number};
 
@@ -43,7 +43,8 @@ const SCRATCH: usize = 2 * (32 * 32 + 16 * 16 + 8 * 8 + 4 * 4 + 2 * 2);
 
 const SCRATCH_WORDS: usize = 4 * SIDE;
 
-// A blank, then the verdict's word.
+// A blank, then the verdict's word. The report's list has bytes, as in C, and any byte has a word: an enum between them would only be
+// tested for what it is not.
 fn put_verdict(out: &mut [u8], at: usize, verdict: u8) -> usize
     requires { at ≤ length out.old }
     ensures { Put out.old at (ascii " " ++ verdict_word verdict) out.new result }
@@ -77,50 +78,42 @@ fn put_frame_line(
     put_byte(out, next, b'\n')
 }
 
-// Frame k's line and those of its records, of which there are `count` in all.
-fn put_frame(
-    out: &mut [u8],
-    at: usize,
-    k: usize,
-    shifts: &[i32],
-    verdicts: &[u8],
-    records: &[u8],
-    count: usize,
-) -> usize
-    requires { (at ≤ length out.old) × (count ≤ 65536) × (2 * k + 2 ≤ length shifts.now) × (k < length verdicts.now) }
-    ensures { Put out.old at (frame_text_in shifts.now verdicts.now records.now count k) out.new result }
+// What a report leaves in its lists.
+#[derive(Clone, Copy)]
+struct Lists<'a> {
+    shifts: &'a [i32],
+    verdicts: &'a [u8],
+    records: &'a [u8],
+}
+
+// Frame k's line and those of its records.
+fn put_frame(out: &mut [u8], at: usize, k: usize, lists: &Lists<'_>) -> usize
+    requires { (at ≤ length out.old) × (2 * k + 2 ≤ length lists.now.shifts.now) × (k < length lists.now.verdicts.now) }
+    ensures { Put out.old at (frame_text_in lists.now.shifts.now lists.now.verdicts.now lists.now.records.now (length lists.now.records.now / 20) k) out.new result }
 {
-    let number = number_of(records, count, k);
+    let number = number_of(lists.records, k);
     let next = put_frame_line(
         out,
         at,
         k,
-        shifts[2 * k],
-        shifts[2 * k + 1],
-        verdicts[k],
+        lists.shifts[2 * k],
+        lists.shifts[2 * k + 1],
+        lists.verdicts[k],
         number,
     );
-    put_records(out, next, records, count, k)
+    put_records(out, next, lists.records, k)
 }
 
-// Those of each of n frames.
-fn put_frames(
-    out: &mut [u8],
-    at: usize,
-    n: usize,
-    shifts: &[i32],
-    verdicts: &[u8],
-    records: &[u8],
-    count: usize,
-) -> usize
-    requires { (at ≤ length out.old) × (count ≤ 65536) × (2 * n ≤ length shifts.now) × (n ≤ length verdicts.now) }
-    ensures { Put out.old at (joined n (frame_text_in shifts.now verdicts.now records.now count)) out.new result }
+// Those of each frame.
+fn put_frames(out: &mut [u8], at: usize, lists: &Lists<'_>) -> usize
+    requires { (at ≤ length out.old) × (2 * length lists.now.verdicts.now ≤ length lists.now.shifts.now) }
+    ensures { Put out.old at
+        (joined (length lists.now.verdicts.now) (frame_text_in lists.now.shifts.now lists.now.verdicts.now lists.now.records.now (length lists.now.records.now / 20)))
+        out.new result }
 {
     let mut next = at;
-    let mut k: usize = 0;
-    while k < n {
-        next = put_frame(out, next, k, shifts, verdicts, records, count);
-        k += 1;
+    for k in 0..lists.verdicts.len() {
+        next = put_frame(out, next, k, lists);
     }
     next
 }
@@ -139,30 +132,25 @@ fn put_heading(out: &mut [u8], n: usize, crop: Rect) -> usize
     put_byte(out, next, b'\n')
 }
 
-// An accepted report of n frames.
-fn put_summary(
-    out: &mut [u8],
-    n: usize,
-    summary: Summary,
-    shifts: &[i32],
-    verdicts: &[u8],
-    records: &[u8],
-) -> usize
-    requires { (summary.records ≤ 65536) × (2 * n ≤ length shifts.now) × (n ≤ length verdicts.now) }
+// An accepted report.
+fn put_summary(out: &mut [u8], summary: Summary, lists: &Lists<'_>) -> usize
+    requires { (20 * summary.records ≤ length lists.now.records.now) × (2 * length lists.now.verdicts.now ≤ length lists.now.shifts.now) }
     ensures { Put out.old 0
-        (heading n (rect_in summary.crop)
-        ++ joined n (frame_text_in shifts.now verdicts.now records.now summary.records))
+        (heading (length lists.now.verdicts.now) (rect_in summary.crop)
+        ++ joined (length lists.now.verdicts.now) (frame_text_in lists.now.shifts.now lists.now.verdicts.now lists.now.records.now summary.records))
         out.new result }
 {
-    let at = put_heading(out, n, summary.crop);
-    put_frames(out, at, n, shifts, verdicts, records, summary.records)
+    let at = put_heading(out, lists.verdicts.len(), summary.crop);
+    let records = &lists.records[..RECORD_BYTES * summary.records];
+    put_frames(out, at, &Lists { records, ..*lists })
 }
 
+// A refusal by its number: the text has the number alone (`refusal_text`), so that the error itself would only be turned into it here.
 fn put_refusal(out: &mut [u8], number: u32) -> usize
     ensures { Put out.old 0 (refusal_text number) out.new result }
 {
     let mut next = put_bytes(out, 0, b"refused");
-    next = put_next(out, next, number as u64);
+    next = put_next(out, next, u64::from(number));
     put_byte(out, next, b'\n')
 }
 
@@ -171,11 +159,7 @@ fn put_refusal(out: &mut [u8], number: u32) -> usize
 fn options() -> Options
     ensures { options_in result ≡ input_options }
 {
-    Options {
-        bits: 6,
-        tolerance: 4,
-        shrink: Shrink::Average,
-    }
+    Options::default()
 }
 
 fn terms() -> Terms
@@ -223,18 +207,24 @@ fn put_answer(
         &mut words,
     );
     match answer {
-        ReportAnswer::Reported(summary) => {
-            put_summary(out, widths.len(), summary, shifts, verdicts, &records)
+        Ok(summary) => {
+            let lists = Lists {
+                shifts,
+                verdicts,
+                records: &records,
+            };
+            put_summary(out, summary, &lists)
         }
-        ReportAnswer::Refused(error) => put_refusal(out, error.number()),
+        Err(error) => put_refusal(out, error.number()),
     }
 }
 
-// The text for n whole frames.
-fn put_report(samples: &[u8], n: usize, out: &mut [u8]) -> usize
-    requires { (n ≤ 8) × (length samples.now ≡ n * 4096) }
+// The text for whole frames.
+fn put_report(samples: &[u8], out: &mut [u8]) -> usize
+    requires { (length samples.now ≤ 32768) × (length samples.now % 4096 ≡ 0) }
     ensures { Put out.old 0 (text samples.now) out.new result }
 {
+    let n = samples.len() / FRAME;
     let widths = [SIDE; FRAMES];
     let heights = [SIDE; FRAMES];
     let percentiles = [PERCENTILE; FRAMES];
@@ -251,8 +241,8 @@ fn put_report(samples: &[u8], n: usize, out: &mut [u8]) -> usize
     )
 }
 
-// The text for an input at the start of `out`, as far as there is room; the answer is its length there. 8,192 bytes are room enough for
-// any (`text_fits` in proofs/Room.antt).
+/// The text for an input at the start of `out`, as far as there is room; the answer is its length there. 8,192 bytes are room enough for
+/// any (`text_fits` in proofs/Room.antt).
 pub fn put_text(input: &[u8], out: &mut [u8]) -> usize
     ensures length { result ≡ min (length (text input.now)) (length out.old) }
     ensures text { out.new ≡ take (length out.old) (text input.now) ++ drop (length (text input.now)) out.old }
@@ -264,5 +254,5 @@ pub fn put_text(input: &[u8], out: &mut [u8]) -> usize
     if len % FRAME != 0 {
         return put_bytes(out, 0, b"bad input\n");
     }
-    put_report(input, len / FRAME, out)
+    put_report(input, out)
 }

@@ -1,120 +1,101 @@
-// The records of a report read back from their bytes, and their lines.
-ghost use Rattle.std.specs.Prelude.{◌≡◌, cond, [], ◌∷◌, ◌++◌, ◌≤◌, ◌<◌, eqb, length, get_or};
-ghost use Rattle.definitions.specs.Report.{field_of, signed_of, record_at};
-ghost use Rattle.steps.specs.Text.{ascii, integer, record_line, lines_of_records};
-ghost use Rattle.steps.specs.Inner.{Put, records_of};
+// The records of a report read back from their bytes, and their lines. `out` and `at` stay two parameters: see text.rt.
+ghost use Rattle.std.specs.Prelude.{◌≡◌, cond, [], ◌∷◌, ◌++◌, ◌+◌, ◌*◌, ◌/◌, ◌≤◌, ◌<◌, eqb, length, count_by};
+ghost use Rattle.std.specs.List.{range_with_len};
+ghost use Rattle.definitions.specs.Report.{field_of, record_at};
+ghost use Rattle.steps.specs.Text.{record_line, lines_of_records};
+ghost use Rattle.steps.specs.Inner.{Put, record_in, records_of};
 
-use super::text::{put_byte, put_negative, put_next, put_number};
+use super::text::{put_byte, put_coordinate, put_next, put_number};
 
 // A record is five fields of four bytes.
 const FIELD_BYTES: usize = 4;
 
 pub(crate) const RECORD_BYTES: usize = 20;
 
-// The byte at `at`, and 0 past the end.
-pub(crate) fn byte_at(records: &[u8], at: usize) -> u64
-    ensures { (result ≡ get_or records.now at 0) × (result < 256) }
-{
-    if at < records.len() {
-        return wide(records[at]);
-    }
-    0
-}
-
-fn wide(byte: u8) -> u64
-    ensures { (result ≡ byte) × (result < 256) }
-{
-    byte as u64
+#[derive(Clone, Copy)]
+pub(crate) struct Record {
+    frame: u32,
+    x: i32,
+    y: i32,
+    disagreeing: u32,
+    compared: u32,
 }
 
 // Field f of record i: 32 bits, low byte first.
-pub(crate) fn field(records: &[u8], i: usize, f: usize) -> u64
-    requires { (i < 65536) × (f < 5) }
-    ensures { (result ≡ field_of records.now i f) × (result < 4294967296) }
+fn field(records: &[u8], i: usize, f: usize) -> u32
+    requires { (20 * i + 20 ≤ length records.now) × (f < 5) }
+    ensures { result ≡ field_of records.now i f }
 {
     let at = RECORD_BYTES * i + FIELD_BYTES * f;
-    byte_at(records, at)
-        + 256 * byte_at(records, at + 1)
-        + 65536 * byte_at(records, at + 2)
-        + 16777216 * byte_at(records, at + 3)
+    u32::from_le_bytes([
+        records[at],
+        records[at + 1],
+        records[at + 2],
+        records[at + 3],
+    ])
 }
 
-// A blank, then a field that is signed, by two's complement.
-pub(crate) fn put_signed_field(out: &mut [u8], at: usize, bits: u64) -> usize
-    requires { (at ≤ length out.old) × (bits < 4294967296) }
-    ensures { Put out.old at (ascii " " ++ integer (signed_of bits)) out.new result }
+fn record_at(records: &[u8], i: usize) -> Record
+    requires { 20 * i + 20 ≤ length records.now }
+    ensures { record_in result ≡ record_at records.now i }
 {
-    if bits >= 2147483648 {
-        return put_negative(out, at, 4294967296 - bits);
+    Record {
+        frame: field(records, i, 0),
+        x: field(records, i, 1).cast_signed(),
+        y: field(records, i, 2).cast_signed(),
+        disagreeing: field(records, i, 3),
+        compared: field(records, i, 4),
     }
-    put_next(out, at, bits)
 }
 
-// Record i's line.
-pub(crate) fn put_record(out: &mut [u8], at: usize, records: &[u8], i: usize) -> usize
-    requires { (at ≤ length out.old) × (i < 65536) }
-    ensures { Put out.old at (record_line (record_at records.now i)) out.new result }
+// A record's line.
+fn put_record(out: &mut [u8], at: usize, e: Record) -> usize
+    requires { at ≤ length out.old }
+    ensures { Put out.old at (record_line (record_in e)) out.new result }
 {
-    let mut next = put_number(out, at, field(records, i, 0));
-    next = put_signed_field(out, next, field(records, i, 1));
-    next = put_signed_field(out, next, field(records, i, 2));
-    next = put_next(out, next, field(records, i, 3));
-    next = put_next(out, next, field(records, i, 4));
+    let mut next = put_number(out, at, u64::from(e.frame));
+    next = put_coordinate(out, next, e.x);
+    next = put_coordinate(out, next, e.y);
+    next = put_next(out, next, u64::from(e.disagreeing));
+    next = put_next(out, next, u64::from(e.compared));
     put_byte(out, next, b'\n')
 }
 
-// Record i's line if the record is one of frame k.
-pub(crate) fn put_record_of(out: &mut [u8], at: usize, records: &[u8], i: usize, k: usize) -> usize
-    requires { (at ≤ length out.old) × (i < 65536) }
-    ensures { Put out.old at (lines_of_records (cond (eqb (record_at records.now i).frame k) (record_at records.now i ∷ []) [])) out.new result }
+// A record is one of frame k.
+fn is_of(e: Record, k: usize) -> bool
+    ensures { result ≡ eqb e.frame k }
 {
-    if field(records, i, 0) == k as u64 {
-        return put_record(out, at, records, i);
+    e.frame as usize == k
+}
+
+// Its line if it is one of frame k.
+fn put_record_of(out: &mut [u8], at: usize, e: Record, k: usize) -> usize
+    requires { at ≤ length out.old }
+    ensures { Put out.old at (lines_of_records (cond (eqb e.frame k) (record_in e ∷ []) [])) out.new result }
+{
+    if is_of(e, k) {
+        return put_record(out, at, e);
     }
     at
 }
 
-// The lines of frame k's records, among the first `count`.
-pub(crate) fn put_records(
-    out: &mut [u8],
-    at: usize,
-    records: &[u8],
-    count: usize,
-    k: usize,
-) -> usize
-    requires { (at ≤ length out.old) × (count ≤ 65536) }
-    ensures { Put out.old at (lines_of_records (records_of records.now count k)) out.new result }
+// The lines of frame k's records.
+pub(crate) fn put_records(out: &mut [u8], at: usize, records: &[u8], k: usize) -> usize
+    requires { at ≤ length out.old }
+    ensures { Put out.old at (lines_of_records (records_of records.now (length records.now / 20) k)) out.new result }
 {
     let mut next = at;
-    let mut i: usize = 0;
-    while i < count {
-        next = put_record_of(out, next, records, i, k);
-        i += 1;
+    for i in 0..records.len() / RECORD_BYTES {
+        next = put_record_of(out, next, record_at(records, i), k);
     }
     next
 }
 
-// 1 for a record of frame k.
-pub(crate) fn one_if_of(records: &[u8], i: usize, k: usize) -> usize
-    requires { i < 65536 }
-    ensures { result ≡ cond (eqb (record_at records.now i).frame k) 1 0 }
+// How many records are of frame k.
+pub(crate) fn number_of(records: &[u8], k: usize) -> usize
+    ensures { result ≡ count_by (λ i. eqb (record_at records.now i).frame k) (range_with_len 0 (length records.now / 20)) }
 {
-    if field(records, i, 0) == k as u64 {
-        return 1;
-    }
-    0
-}
-
-// How many of the first `count` records are of frame k.
-pub(crate) fn number_of(records: &[u8], count: usize, k: usize) -> usize
-    requires { count ≤ 65536 }
-    ensures { result ≡ length (records_of records.now count k) }
-{
-    let mut number: usize = 0;
-    let mut i: usize = 0;
-    while i < count {
-        number += one_if_of(records, i, k);
-        i += 1;
-    }
-    number
+    (0..records.len() / RECORD_BYTES)
+        .filter(|&i| is_of(record_at(records, i), k))
+        .count()
 }

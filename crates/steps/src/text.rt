@@ -1,5 +1,6 @@
-// Text that is put into a buffer from `at` on, as far as there is room; each answer is where it ends.
-ghost use Rattle.std.specs.Prelude.{◌≡◌, [], ◌∷◌, ◌++◌, ◌≤◌, nat_abs, length};
+// Text that is put into a buffer from `at` on, as far as there is room; each answer is where it ends. Buffer and place stay two
+// parameters: a struct that lends a `&mut` owes a clause on its loan in each contract.
+ghost use Rattle.std.specs.Prelude.{◌≡◌, [], ◌∷◌, ◌++◌, ◌≤◌, length};
 ghost use Rattle.definitions.specs.Decimal.{decimal};
 ghost use Rattle.steps.specs.Text.{ascii, integer};
 ghost use Rattle.steps.specs.Inner.{Put};
@@ -20,13 +21,9 @@ pub(crate) fn put_bytes(out: &mut [u8], at: usize, bytes: &[u8]) -> usize
     requires { at ≤ length out.old }
     ensures { Put out.old at bytes.now out.new result }
 {
-    let mut next = at;
-    let mut i: usize = 0;
-    while i < bytes.len() {
-        next = put_byte(out, next, bytes[i]);
-        i += 1;
-    }
-    next
+    let n = bytes.len().min(out.len() - at);
+    out[at..at + n].copy_from_slice(&bytes[..n]);
+    at + n
 }
 
 pub(crate) fn put_number(out: &mut [u8], at: usize, value: u64) -> usize
@@ -56,22 +53,12 @@ pub(crate) fn put_negative(out: &mut [u8], at: usize, value: u64) -> usize
     put_number(out, next, value)
 }
 
-// How far a coordinate lies from 0.
-pub(crate) fn magnitude(coordinate: i32) -> u64
-    ensures { result ≡ nat_abs coordinate }
-{
-    if coordinate < 0 {
-        return (0 - coordinate as i64) as u64;
-    }
-    coordinate as u64
-}
-
 // A blank, then the coordinate.
 pub(crate) fn put_coordinate(out: &mut [u8], at: usize, coordinate: i32) -> usize
     requires { at ≤ length out.old }
     ensures { Put out.old at (ascii " " ++ integer coordinate) out.new result }
 {
-    let size = magnitude(coordinate);
+    let size = u64::from(coordinate.unsigned_abs());
     if coordinate < 0 {
         return put_negative(out, at, size);
     }

@@ -4,10 +4,9 @@
 // mosaics are put together again.
 #![tactic(auto)]
 
-use mosaic::{MosaicAnswer, Plane, Planes, PlanesAnswer};
-use mtb_align::align::{Options, StepAnswer};
-use mtb_align::report::{ReportAnswer, Terms};
-use mtb_align::shrink::Shrink;
+use mosaic::{Plane, Planes};
+use mtb_align::align::Options;
+use mtb_align::report::Terms;
 use std::io;
 use std::io::Read;
 
@@ -52,8 +51,7 @@ const RECORDS: usize = 20 * 17 * 17;
 fn options() -> Options {
     Options {
         bits: 4,
-        tolerance: 4,
-        shrink: Shrink::Average,
+        ..Options::default()
     }
 }
 
@@ -69,7 +67,7 @@ fn terms() -> Terms {
 fn stepped(plane: Plane, first: &[u8], second: &[u8]) -> bool {
     let mut bytes = [0u8; SCRATCH];
     let mut words = [0u64; SCRATCH_WORDS];
-    match mtb_align::align::shift(
+    mtb_align::align::shift(
         plane.part(first),
         plane.width,
         plane.height,
@@ -81,10 +79,8 @@ fn stepped(plane: Plane, first: &[u8], second: &[u8]) -> bool {
         options(),
         &mut bytes,
         &mut words,
-    ) {
-        StepAnswer::Stepped(step) => step.shift.x == STEP_X && step.shift.y == STEP_Y,
-        StepAnswer::Refused(_) => false,
-    }
+    )
+    .is_ok_and(|step| step.shift.x == STEP_X && step.shift.y == STEP_Y)
 }
 
 // The report on two frames of a plane's size: how many records there are, or none where it is refused.
@@ -94,16 +90,13 @@ fn reported(
     shifts: &mut [i32],
     verdicts: &mut [u8],
     records: &mut [u8],
-) -> usize {
-    let widths = [plane.width, plane.width];
-    let heights = [plane.height, plane.height];
-    let percentiles = [PERCENTILE, PERCENTILE];
+) -> Option<usize> {
     let mut bytes = [0u8; SCRATCH];
     let mut words = [0u64; SCRATCH_WORDS];
-    match mtb_align::report::report(
-        &widths,
-        &heights,
-        &percentiles,
+    mtb_align::report::report(
+        &[plane.width; 2],
+        &[plane.height; 2],
+        &[PERCENTILE; 2],
         samples,
         0,
         options(),
@@ -113,26 +106,18 @@ fn reported(
         records,
         &mut bytes,
         &mut words,
-    ) {
-        ReportAnswer::Reported(summary) => summary.records,
-        ReportAnswer::Refused(_) => 0,
-    }
+    )
+    .ok()
+    .map(|summary| summary.records)
 }
 
 fn is_step(shifts: &[i32; 4]) -> bool {
     shifts[2] == STEP_X && shifts[3] == STEP_Y
 }
 
+// 2 is alone in the list of bytes that the report writes, as in C.
 fn is_alone(verdicts: &[u8; 2]) -> bool {
     verdicts[1] == 2
-}
-
-fn same_verdicts(a: &[u8; 2], b: &[u8; 2]) -> bool {
-    a == b
-}
-
-fn same_records(a: &[u8; RECORDS], b: &[u8; RECORDS]) -> bool {
-    a == b
 }
 
 fn say(rt: &impl Print, what: &str, is: bool) -> io::Result<()> {
@@ -159,34 +144,26 @@ fn print_report(rt: &impl Print, plane: Plane, stack: &[u8], lent: &[u8]) -> io:
         &mut lent_records,
     );
     say(rt, " alone,", is_alone(&verdicts))?;
-    print!(rt; " rivals {n},")?;
+    let rivals = n.unwrap_or(0);
+    print!(rt; " rivals {rivals},")?;
     say(
         rt,
         " as of the planes lent directly\n",
         n == m
             && is_step(&shifts)
             && is_step(&lent_shifts)
-            && same_verdicts(&verdicts, &lent_verdicts)
-            && same_records(&records, &lent_records),
+            && verdicts == lent_verdicts
+            && records == lent_records,
     )
 }
 
-// Two planes one behind the other, as a stack; how many samples they have, or 0 where there is no room for them.
-fn stacked(first: &[u8], second: &[u8], stack: &mut [u8]) -> usize {
+// Two planes one behind the other, as a stack, where there is room for them.
+fn stacked<'a>(first: &[u8], second: &[u8], room: &'a mut [u8]) -> Option<&'a [u8]> {
     let n = first.len();
-    if n > PLANE {
-        return 0;
-    }
-    if second.len() > PLANE {
-        return 0;
-    }
-    if stack.len() < 2 * PLANE {
-        return 0;
-    }
-    let end = n + second.len();
-    stack[0..n].copy_from_slice(first);
-    stack[n..end].copy_from_slice(second);
-    end
+    let stack = room.get_mut(..n + second.len())?;
+    stack[..n].copy_from_slice(first);
+    stack[n..].copy_from_slice(second);
+    Some(stack)
 }
 
 // A plane of both mosaics. For the step they are lent where they stand, for the report as a stack.
@@ -203,12 +180,9 @@ fn print_plane(
     let start = plane.start;
     print!(rt; "{name}: {width} by {height} from {start},")?;
     say(rt, " moved as the mosaic,", stepped(plane, first, second))?;
-    let mut stack = [0u8; 2 * PLANE];
-    let n = stacked(plane.part(first), plane.part(second), &mut stack);
-    if n > 2 * PLANE {
-        return Ok(());
-    }
-    print_report(rt, plane, &stack[0..n], lent)
+    let mut room = [0u8; 2 * PLANE];
+    let stack = stacked(plane.part(first), plane.part(second), &mut room).unwrap_or(&[]);
+    print_report(rt, plane, stack, lent)
 }
 
 fn print_planes(
@@ -258,17 +232,7 @@ fn print_planes(
 // The planes are put together as the mosaic that they were taken from.
 fn put_together_again(planes: &[u8], mosaic: &[u8]) -> bool {
     let mut again = [0u8; SAMPLES];
-    match mosaic::put_together(planes, WIDTH, HEIGHT, &mut again) {
-        MosaicAnswer::Done => again.as_slice() == mosaic,
-        MosaicAnswer::Refused(_) => false,
-    }
-}
-
-fn taken_apart(mosaic: &[u8], planes: &mut [u8]) -> bool {
-    match mosaic::take_apart(mosaic, WIDTH, HEIGHT, planes) {
-        MosaicAnswer::Done => true,
-        MosaicAnswer::Refused(_) => false,
-    }
+    mosaic::put_together(planes, WIDTH, HEIGHT, &mut again).is_ok() && again.as_slice() == mosaic
 }
 
 fn run(rt: &impl Print, input: &[u8]) -> io::Result<()> {
@@ -279,13 +243,10 @@ fn run(rt: &impl Print, input: &[u8]) -> io::Result<()> {
     let second = &input[SAMPLES..2 * SAMPLES];
     let mut planes = [0u8; SAMPLES];
     let mut others = [0u8; SAMPLES];
-    let one = taken_apart(first, &mut planes);
-    let both = taken_apart(second, &mut others) && one;
-    match mosaic::layout(WIDTH, HEIGHT) {
-        PlanesAnswer::Laid(laid) => {
-            print_planes(rt, laid, &planes, &others, &input[2 * SAMPLES..])?;
-        }
-        PlanesAnswer::Refused(_) => {}
+    let one = mosaic::take_apart(first, WIDTH, HEIGHT, &mut planes).is_ok();
+    let both = mosaic::take_apart(second, WIDTH, HEIGHT, &mut others).is_ok() && one;
+    if let Ok(laid) = mosaic::layout(WIDTH, HEIGHT) {
+        print_planes(rt, laid, &planes, &others, &input[2 * SAMPLES..])?;
     }
     let again = put_together_again(&planes, first);
     let other_again = put_together_again(&others, second);
@@ -293,6 +254,7 @@ fn run(rt: &impl Print, input: &[u8]) -> io::Result<()> {
     say(rt, " put together again\n", both && again && other_again)
 }
 
+// Read into an array of this program's own size: a function for all would be generic in it and stand in a crate that all five need.
 fn main(rt: HostRuntime) -> io::Result<()> {
     let mut input = [0u8; INPUT];
     let n = io::copy(

@@ -5,11 +5,7 @@
 #![tactic(auto)]
 
 use mtb_align::align::Options;
-use mtb_align::error::Outcome;
-use mtb_align::report::{ReportAnswer, Terms};
-use mtb_align::shrink::Shrink;
-use pgm::WriteAnswer;
-use pgm::stack::StackRead;
+use mtb_align::report::Terms;
 use std::io;
 use std::io::Read;
 
@@ -37,14 +33,6 @@ const SCRATCH_WORDS: usize = 4 * SIDE;
 // Room for every shift within a reach of 8 of each frame but the reference.
 const RECORDS: usize = 20 * 3 * 17 * 17;
 
-fn options() -> Options {
-    Options {
-        bits: 6,
-        tolerance: 4,
-        shrink: Shrink::Average,
-    }
-}
-
 fn terms() -> Terms {
     Terms {
         reach: 8,
@@ -53,135 +41,98 @@ fn terms() -> Terms {
     }
 }
 
+// Frames as a call is lent them.
+#[derive(Clone, Copy)]
+struct Stack<'a> {
+    widths: &'a [usize],
+    heights: &'a [usize],
+    samples: &'a [u8],
+}
+
 // The frames are aligned.
-fn aligned(widths: &[usize], heights: &[usize], samples: &[u8], shifts: &mut [i32]) -> bool {
+fn aligned(stack: Stack<'_>, shifts: &mut [i32]) -> bool {
     let mut bytes = [0u8; SCRATCH];
     let mut words = [0u64; SCRATCH_WORDS];
-    match mtb_align::align::align_stack(
-        widths,
-        heights,
+    mtb_align::align::align_stack(
+        stack.widths,
+        stack.heights,
         &PERCENTILES,
-        samples,
+        stack.samples,
         0,
-        options(),
+        Options::default(),
         shifts,
         &mut bytes,
         &mut words,
-    ) {
-        Outcome::Done => true,
-        Outcome::Refused(_) => false,
-    }
-}
-
-fn same_shifts(a: &[i32; SHIFTS], b: &[i32; SHIFTS]) -> bool {
-    a == b
-}
-
-fn same_verdicts(a: &[u8; FRAMES], b: &[u8; FRAMES]) -> bool {
-    a == b
-}
-
-fn same_records(a: &[u8; RECORDS], b: &[u8; RECORDS]) -> bool {
-    a == b
+    )
+    .is_ok()
 }
 
 // The frames of the file have the shifts of the frames that are lent.
-fn aligned_alike(widths: &[usize], heights: &[usize], samples: &[u8], lent: &[u8]) -> bool {
-    let sides = [SIDE; FRAMES];
-    let mut of_file = [0i32; SHIFTS];
-    let mut of_lent = [0i32; SHIFTS];
-    aligned(widths, heights, samples, &mut of_file)
-        && aligned(&sides, &sides, lent, &mut of_lent)
-        && same_shifts(&of_file, &of_lent)
+fn aligned_alike(of_file: Stack<'_>, lent: Stack<'_>) -> bool {
+    let mut shifts = [0i32; SHIFTS];
+    let mut lent_shifts = [0i32; SHIFTS];
+    aligned(of_file, &mut shifts) && aligned(lent, &mut lent_shifts) && shifts == lent_shifts
 }
 
 // There is a report on the frames.
-fn reported(
-    widths: &[usize],
-    heights: &[usize],
-    samples: &[u8],
-    shifts: &mut [i32],
-    verdicts: &mut [u8],
-    records: &mut [u8],
-) -> bool {
+fn reported(stack: Stack<'_>, shifts: &mut [i32], verdicts: &mut [u8], records: &mut [u8]) -> bool {
     let mut bytes = [0u8; SCRATCH];
     let mut words = [0u64; SCRATCH_WORDS];
-    match mtb_align::report::report(
-        widths,
-        heights,
+    mtb_align::report::report(
+        stack.widths,
+        stack.heights,
         &PERCENTILES,
-        samples,
+        stack.samples,
         0,
-        options(),
+        Options::default(),
         terms(),
         shifts,
         verdicts,
         records,
         &mut bytes,
         &mut words,
-    ) {
-        ReportAnswer::Reported(summary) => summary.records > 0,
-        ReportAnswer::Refused(_) => false,
-    }
+    )
+    .is_ok_and(|summary| summary.records > 0)
 }
 
 // They have its report too: shifts, verdicts and records.
-fn reported_alike(widths: &[usize], heights: &[usize], samples: &[u8], lent: &[u8]) -> bool {
-    let sides = [SIDE; FRAMES];
+fn reported_alike(of_file: Stack<'_>, lent: Stack<'_>) -> bool {
     let mut shifts = [0i32; SHIFTS];
     let mut verdicts = [0u8; FRAMES];
     let mut records = [0u8; RECORDS];
     let mut lent_shifts = [0i32; SHIFTS];
     let mut lent_verdicts = [0u8; FRAMES];
     let mut lent_records = [0u8; RECORDS];
-    reported(
-        widths,
-        heights,
-        samples,
-        &mut shifts,
-        &mut verdicts,
-        &mut records,
-    ) && reported(
-        &sides,
-        &sides,
-        lent,
-        &mut lent_shifts,
-        &mut lent_verdicts,
-        &mut lent_records,
-    ) && same_shifts(&shifts, &lent_shifts)
-        && same_verdicts(&verdicts, &lent_verdicts)
-        && same_records(&records, &lent_records)
+    reported(of_file, &mut shifts, &mut verdicts, &mut records)
+        && reported(
+            lent,
+            &mut lent_shifts,
+            &mut lent_verdicts,
+            &mut lent_records,
+        )
+        && shifts == lent_shifts
+        && verdicts == lent_verdicts
+        && records == lent_records
 }
 
-// Writes frame k behind what is written already; where it ends, or 0 where it does not fit.
-fn one_written(samples: &[u8], k: usize, file: &mut [u8], at: usize) -> usize {
-    if k >= FRAMES {
-        return 0;
-    }
-    if samples.len() != SAMPLES {
-        return 0;
-    }
-    if at > file.len() {
-        return 0;
+// Writes frame k behind what is written already; where it ends, or None where it does not fit.
+fn one_written(samples: &[u8], k: usize, file: &mut [u8], at: usize) -> Option<usize> {
+    if k >= FRAMES || samples.len() != SAMPLES || at > file.len() {
+        return None;
     }
     let start = k * FRAME;
-    match pgm::write(&samples[start..start + FRAME], SIDE, SIDE, &mut file[at..]) {
-        WriteAnswer::Written(length) => {
-            if length > file.len() - at {
-                return 0;
-            }
-            at + length
-        }
-        WriteAnswer::Refused(_) => 0,
-    }
+    let frame = &samples[start..start + FRAME];
+    let length = pgm::write(frame, SIDE, SIDE, &mut file[at..]).ok()?;
+    at.checked_add(length)
 }
 
 // Writes the four frames one behind another; where the last one ends.
-fn all_written(samples: &[u8], file: &mut [u8]) -> usize {
-    let first = one_written(samples, 0, file, 0);
-    let second = one_written(samples, 1, file, first);
-    let third = one_written(samples, 2, file, second);
-    one_written(samples, 3, file, third)
+fn all_written(samples: &[u8], file: &mut [u8]) -> Option<usize> {
+    let mut end = 0;
+    for k in 0..FRAMES {
+        end = one_written(samples, k, file, end)?;
+    }
+    Some(end)
 }
 
 // What is read of a file is this bracket, up to the file's end.
@@ -189,20 +140,20 @@ fn is_bracket(file: &[u8], bracket: &[u8]) -> bool {
     let mut widths = [0usize; FRAMES];
     let mut heights = [0usize; FRAMES];
     let mut samples = [0u8; SAMPLES];
-    match pgm::stack::read_stack(file, 0, &mut widths, &mut heights, &mut samples) {
-        StackRead::Laid(next) => next == file.len() && samples.as_slice() == bracket,
-        StackRead::Refused(_) => false,
-    }
+    let answer = pgm::stack::read_stack(file, 0, &mut widths, &mut heights, &mut samples);
+    answer.is_ok_and(|next| next == file.len() && samples.as_slice() == bracket)
 }
 
 // Writes the bracket of a file of so many bytes, and says whether it is read back.
 fn say_written(rt: &impl Print, samples: &[u8], length: usize) -> io::Result<()> {
     let mut file = [0u8; INPUT];
-    let end = all_written(samples, &mut file);
+    let Some(end) = all_written(samples, &mut file) else {
+        return Ok(());
+    };
     if end > INPUT {
         return Ok(());
     }
-    if !is_bracket(&file[0..end], samples) {
+    if !is_bracket(&file[..end], samples) {
         print!(rt; "not ")?;
     }
     println!(rt; "read back from {end} bytes, of {length}")
@@ -226,31 +177,33 @@ fn run(rt: &impl Print, input: &[u8]) -> io::Result<()> {
     let mut heights = [0usize; FRAMES];
     let mut samples = [0u8; SAMPLES];
     match pgm::stack::read_stack(input, 0, &mut widths, &mut heights, &mut samples) {
-        StackRead::Laid(next) => {
+        Ok(next) => {
             print_report(rt, &samples)?;
             if next <= input.len() {
-                let lent = &input[next..];
-                say(
-                    rt,
-                    "shifts",
-                    aligned_alike(&widths, &heights, &samples, lent),
-                )?;
-                say(
-                    rt,
-                    "report",
-                    reported_alike(&widths, &heights, &samples, lent),
-                )?;
+                let of_file = Stack {
+                    widths: &widths,
+                    heights: &heights,
+                    samples: &samples,
+                };
+                let lent = Stack {
+                    widths: &[SIDE; FRAMES],
+                    heights: &[SIDE; FRAMES],
+                    samples: &input[next..],
+                };
+                say(rt, "shifts", aligned_alike(of_file, lent))?;
+                say(rt, "report", reported_alike(of_file, lent))?;
                 say_written(rt, &samples, next)?;
             }
             Ok(())
         }
-        StackRead::Refused(e) => {
+        Err(e) => {
             let number = e.number();
             println!(rt; "refused {number}")
         }
     }
 }
 
+// Read into an array of this program's own size: a function for all would be generic in it and stand in a crate that all five need.
 fn main(rt: HostRuntime) -> io::Result<()> {
     let mut input = [0u8; INPUT];
     let n = io::copy(

@@ -1,25 +1,25 @@
 // doubled, offset, shifted, common_crop.
-use super::FRAMES;
-use mtb_align::geometry::{CropAnswer, Shift, ShiftAnswer};
+use super::{FRAMES, numbers_agree};
+use mtb_align::error::Error;
+use mtb_align::geometry::Shift;
 use replay::answers::{bytes_agree, refusal_agrees};
-use replay::{at, coordinate, coordinates, marked_bytes, part, rest, same_coordinates, same_words};
+use replay::{at, coordinate, load, marked, part, rest, same, same_coordinates};
 
-fn shift_agrees(numbers: &[u64], answer: ShiftAnswer) -> bool {
+fn shift_agrees(numbers: &[u64], answer: Result<Shift, Error>) -> bool {
     match answer {
-        ShiftAnswer::Moved(s) => {
-            let status = [0];
-            let shift = [s.x, s.y];
-            same_words(part(numbers, 0, 1), &status) && same_coordinates(rest(numbers, 1), &shift)
+        Ok(s) => {
+            same(part(numbers, 0, 1), &[0u64]) && same_coordinates(rest(numbers, 1), &[s.x, s.y])
         }
-        ShiftAnswer::Refused(e) => refusal_agrees(numbers, e),
+        Err(e) => refusal_agrees(numbers, e),
     }
 }
 
 // The shift that the numbers begin with.
 pub(crate) fn shift_at(numbers: &[u64]) -> Shift {
-    let x = coordinate(numbers, 0);
-    let y = coordinate(numbers, 1);
-    Shift { x, y }
+    Shift {
+        x: coordinate(numbers, 0),
+        y: coordinate(numbers, 1),
+    }
 }
 
 pub(crate) fn doubled(numbers: &[u64]) -> bool {
@@ -45,19 +45,9 @@ pub(crate) fn shifted(numbers: &[u64], samples: &[u8], moved: &mut [u8]) -> bool
         at(numbers, 0),
         at(numbers, 1),
         shift_at(rest(numbers, 2)),
-        &mut moved[0..out],
+        &mut moved[..out],
     );
-    bytes_agree(rest(numbers, 5), answer, &moved[0..out]) && marked_bytes(&moved[out..])
-}
-
-fn crop_agrees(numbers: &[u64], answer: CropAnswer) -> bool {
-    match answer {
-        CropAnswer::Crop(r) => {
-            let list = [0, r.x as u64, r.y as u64, r.width as u64, r.height as u64];
-            same_words(numbers, &list)
-        }
-        CropAnswer::Refused(e) => refusal_agrees(numbers, e),
-    }
+    bytes_agree(rest(numbers, 5), answer, &moved[..out]) && marked(&moved[out..])
 }
 
 pub(crate) fn common_crop(numbers: &[u64]) -> bool {
@@ -65,12 +55,15 @@ pub(crate) fn common_crop(numbers: &[u64]) -> bool {
     if len > 2 * FRAMES {
         return false;
     }
-    let mut shifts = [0i32; 2 * FRAMES];
-    coordinates(part(numbers, 1, len), &mut shifts);
+    let mut shifts = [0; 2 * FRAMES];
+    load(part(numbers, 1, len), &mut shifts);
     let answer = mtb_align::geometry::common_crop(
-        &shifts[0..len],
+        &shifts[..len],
         at(numbers, 1 + len),
         at(numbers, 2 + len),
     );
-    crop_agrees(rest(numbers, 3 + len), answer)
+    numbers_agree(
+        rest(numbers, 3 + len),
+        answer.map(|crop| [0, crop.x, crop.y, crop.width, crop.height]),
+    )
 }

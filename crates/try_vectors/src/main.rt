@@ -14,7 +14,9 @@ mod report;
 mod shrink;
 mod threshold;
 
-use replay::{MARK, MARK_WORD, at, bytes, conclude, part, read_line, rest, sizes, words};
+use mtb_align::error::Error;
+use replay::answers::refusal_agrees;
+use replay::{MARK, Number, at, conclude, load, part, read_line, rest, same};
 use std::io;
 use std::io::{Input, Read};
 
@@ -38,8 +40,103 @@ const SCRATCH_WORDS: usize = 1024;
 // More frames than a stack may have.
 const FRAMES: usize = 32;
 
+// Whether the numbers are an answer that is shown as numbers itself, or its refusal.
+fn numbers_agree<T: Number, const N: usize>(
+    numbers: &[u64],
+    answer: Result<[T; N], Error>,
+) -> bool {
+    match answer {
+        Ok(shown) => same(numbers, &shown),
+        Err(e) => refusal_agrees(numbers, e),
+    }
+}
+
+// Whether the numbers are a refusal that has no values. By its number alone: the enums of pgm and of mosaic both have one.
+fn number_agrees(numbers: &[u64], number: u32) -> bool {
+    same(numbers, &[u64::from(number), 0])
+}
+
+// The calls, in the order of the table in compare/vectors/src/main.rs.
+#[derive(Clone, Copy)]
+enum Call {
+    FromRgb,
+    Shrink2,
+    Shifted,
+    Threshold,
+    ComputeBitmaps,
+    Pyramid,
+    Level,
+    Get,
+    Set,
+    CountOnes,
+    Row,
+    Disagreement,
+    Doubled,
+    Offset,
+    CommonCrop,
+    Shift,
+    AlignStack,
+    Report,
+    ReadPgm,
+    ReadStack,
+    WritePgm,
+    TakeApart,
+    PutTogether,
+    Planes,
+}
+
+// A number that is no call's.
+#[derive(Clone, Copy)]
+struct NoCall;
+
+// The calls have their numbers by that table.
+impl TryFrom<usize> for Call {
+    type Error = NoCall;
+
+    fn try_from(number: usize) -> Result<Call, NoCall> {
+        match number {
+            1 => Ok(Call::FromRgb),
+            2 => Ok(Call::Shrink2),
+            3 => Ok(Call::Shifted),
+            4 => Ok(Call::Threshold),
+            5 => Ok(Call::ComputeBitmaps),
+            6 => Ok(Call::Pyramid),
+            7 => Ok(Call::Level),
+            8 => Ok(Call::Get),
+            9 => Ok(Call::Set),
+            10 => Ok(Call::CountOnes),
+            11 => Ok(Call::Row),
+            12 => Ok(Call::Disagreement),
+            13 => Ok(Call::Doubled),
+            14 => Ok(Call::Offset),
+            15 => Ok(Call::CommonCrop),
+            16 => Ok(Call::Shift),
+            17 => Ok(Call::AlignStack),
+            18 => Ok(Call::Report),
+            19 => Ok(Call::ReadPgm),
+            20 => Ok(Call::ReadStack),
+            21 => Ok(Call::WritePgm),
+            22 => Ok(Call::TakeApart),
+            23 => Ok(Call::PutTogether),
+            24 => Ok(Call::Planes),
+            _ => Err(NoCall),
+        }
+    }
+}
+
+// A stack of frames as a call is lent it.
+#[derive(Clone, Copy)]
+struct Stack<'a> {
+    widths: &'a [usize],
+    heights: &'a [usize],
+    percentiles: &'a [u8],
+    samples: &'a [u8],
+}
+
 // A call on a stack. Its samples are loaded; the numbers go on with its widths, heights and percentiles.
-fn on_stack(numbers: &[u64], call: usize, samples: &[u8]) -> bool {
+fn on_stack<F: Fn(&[u64], Stack<'_>) -> bool>(numbers: &[u64], samples: &[u8], agrees: F) -> bool
+    requires { F.IsAlwaysCallable agrees }
+{
     let n = at(numbers, 0);
     if n > FRAMES {
         return false;
@@ -52,123 +149,111 @@ fn on_stack(numbers: &[u64], call: usize, samples: &[u8]) -> bool {
     if p > FRAMES {
         return false;
     }
-    let mut widths = [0usize; FRAMES];
-    let mut heights = [0usize; FRAMES];
-    let mut percentiles = [0u8; FRAMES];
-    sizes(part(numbers, 1, n), &mut widths);
-    sizes(part(numbers, 2 + n, m), &mut heights);
-    bytes(part(numbers, 3 + n + m, p), &mut percentiles);
-    let asked = rest(numbers, 3 + n + m + p);
-    if call == 17 {
-        return align::align_stack(
-            asked,
-            &widths[0..n],
-            &heights[0..m],
-            &percentiles[0..p],
-            samples,
-        );
-    }
-    report::report(
-        asked,
-        &widths[0..n],
-        &heights[0..m],
-        &percentiles[0..p],
+    let mut widths = [0; FRAMES];
+    let mut heights = [0; FRAMES];
+    let mut percentiles = [0; FRAMES];
+    load(part(numbers, 1, n), &mut widths);
+    load(part(numbers, 2 + n, m), &mut heights);
+    load(part(numbers, 3 + n + m, p), &mut percentiles);
+    let stack = Stack {
+        widths: &widths[..n],
+        heights: &heights[..m],
+        percentiles: &percentiles[..p],
         samples,
-    )
+    };
+    agrees(rest(numbers, 3 + n + m + p), stack)
 }
 
-// A call on samples, a mosaic or a file, which are loaded. A frame that a call writes is lent marked, and longer than it may need; the case cuts it as the
-// line says.
-fn on_loaded(numbers: &[u64], call: usize, samples: &[u8]) -> bool {
-    let mut out = [MARK; SAMPLES];
-    match call {
-        1 => gray::from_rgb(numbers, samples, &mut out),
-        2 => shrink::shrink2(numbers, samples, &mut out),
-        3 => geometry::shifted(numbers, samples, &mut out),
-        4 => threshold::threshold(numbers, samples),
-        5 => threshold::compute_bitmaps(numbers, samples),
-        6 => align::pyramid(numbers, samples, &mut out),
-        7 => align::level(numbers, samples),
-        16 => align::shift(numbers, samples),
-        19 => files::read_pgm(numbers, samples),
-        20 => files::read_stack(numbers, samples, &mut out),
-        21 => files::write_pgm(numbers, samples, &mut out),
-        22 => mosaics::take_apart(numbers, samples, &mut out),
-        23 => mosaics::put_together(numbers, samples, &mut out),
-        _ => on_stack(numbers, call, samples),
-    }
-}
-
-// A call on samples or a file, whose list comes first.
-fn on_samples(numbers: &[u64], call: usize) -> bool {
+// A call on samples, a mosaic or a file, whose list comes first. A frame that a call writes is lent marked, and longer than it may need; the case cuts it as
+// the line says.
+fn on_samples<F: Fn(&[u64], &[u8], &mut [u8]) -> bool>(numbers: &[u64], agrees: F) -> bool
+    requires { F.IsAlwaysCallable agrees }
+{
     let len = at(numbers, 0);
     if len > SAMPLES {
         return false;
     }
-    let mut samples = [0u8; SAMPLES];
-    bytes(part(numbers, 1, len), &mut samples);
-    on_loaded(rest(numbers, 1 + len), call, &samples[0..len])
+    let mut samples = [0; SAMPLES];
+    load(part(numbers, 1, len), &mut samples);
+    let mut out = [MARK; SAMPLES];
+    agrees(rest(numbers, 1 + len), &samples[..len], &mut out)
 }
 
-// A call on a bitmap, whose words come first. Past them the list has the mark.
-fn on_bitmap(numbers: &[u64], call: usize) -> bool {
+// A call on a bitmap, whose words come first.
+fn on_bitmap<F: Fn(&[u64], &[u64]) -> bool>(numbers: &[u64], agrees: F) -> bool
+    requires { F.IsAlwaysCallable agrees }
+{
     let len = at(numbers, 0);
     if len > BITMAP {
         return false;
     }
-    let mut map = [MARK_WORD; 2 * BITMAP];
-    let before = part(numbers, 1, len);
-    words(before, &mut map);
-    let asked = rest(numbers, 1 + len);
-    match call {
-        8 => bitmap::get(asked, &map[0..len]),
-        9 => bitmap::set(asked, before, &mut map),
-        10 => bitmap::count_ones(asked, &map[0..len]),
-        _ => bitmap::row(asked, &map[0..len]),
-    }
+    agrees(rest(numbers, 1 + len), part(numbers, 1, len))
 }
 
-// The calls have their numbers by the table in compare/vectors/src/main.rs.
+// A line is a call's number, and what the call is asked and answers.
 fn agrees(numbers: &[u64]) -> bool {
-    let call = at(numbers, 0);
+    let Ok(call) = Call::try_from(at(numbers, 0)) else {
+        return false;
+    };
     let asked = rest(numbers, 1);
     match call {
-        1..=7 | 16..=23 => on_samples(asked, call),
-        8..=11 => on_bitmap(asked, call),
-        12 => difference::disagreement(asked),
-        13 => geometry::doubled(asked),
-        14 => geometry::offset(asked),
-        15 => geometry::common_crop(asked),
-        24 => mosaics::planes(asked),
-        _ => false,
+        Call::FromRgb => on_samples(asked, gray::from_rgb),
+        Call::Shrink2 => on_samples(asked, shrink::shrink2),
+        Call::Shifted => on_samples(asked, geometry::shifted),
+        Call::Threshold => on_samples(
+            asked,
+            |asked, samples, _| threshold::threshold(asked, samples),
+        ),
+        Call::ComputeBitmaps => on_samples(
+            asked,
+            |asked, samples, _| threshold::compute_bitmaps(asked, samples),
+        ),
+        Call::Pyramid => on_samples(asked, align::pyramid),
+        Call::Level => on_samples(asked, |asked, samples, _| align::level(asked, samples)),
+        Call::Get => on_bitmap(asked, bitmap::get),
+        Call::Set => on_bitmap(asked, bitmap::set),
+        Call::CountOnes => on_bitmap(asked, bitmap::count_ones),
+        Call::Row => on_bitmap(asked, bitmap::row),
+        Call::Disagreement => difference::disagreement(asked),
+        Call::Doubled => geometry::doubled(asked),
+        Call::Offset => geometry::offset(asked),
+        Call::CommonCrop => geometry::common_crop(asked),
+        Call::Shift => on_samples(asked, |asked, samples, _| align::shift(asked, samples)),
+        Call::AlignStack => on_samples(
+            asked,
+            |asked, samples, _| on_stack(asked, samples, align::align_stack),
+        ),
+        Call::Report => on_samples(
+            asked,
+            |asked, samples, _| on_stack(asked, samples, report::report),
+        ),
+        Call::ReadPgm => on_samples(asked, |asked, file, _| files::read_pgm(asked, file)),
+        Call::ReadStack => on_samples(asked, files::read_stack),
+        Call::WritePgm => on_samples(asked, files::write_pgm),
+        Call::TakeApart => on_samples(asked, mosaics::take_apart),
+        Call::PutTogether => on_samples(asked, mosaics::put_together),
+        Call::Planes => mosaics::planes(asked),
     }
-}
-
-// A line has no more numbers than there is room for.
-fn line_agrees(numbers: &[u64], count: usize) -> bool {
-    if count > numbers.len() {
-        return false;
-    }
-    agrees(&numbers[0..count])
 }
 
 fn replayed(rt: &impl Print, text: &[u8]) -> io::Result<()> {
-    let mut numbers = [0u64; NUMBERS];
+    let mut numbers = [0; NUMBERS];
     let mut next: usize = 0;
     for cases in 0..100000 {
         if next >= text.len() {
-            return conclude(rt, true, 0, cases);
+            return conclude(rt, None, cases);
         }
         let found = read_line(text, next, &mut numbers);
-        if !line_agrees(&numbers, found.count) {
-            return conclude(rt, false, at(&numbers, 0), cases);
+        // a line has no more numbers than there is room for
+        if !numbers.get(..found.count).is_some_and(agrees) {
+            return conclude(rt, Some(at(&numbers, 0)), cases);
         }
         next = found.next;
     }
     Ok(())
 }
 
-// Replays what standard input has, as far as there is room for it.
+// Replays what standard input has, as far as there is room for it. The room is lent whole, as an array: at a slice of one so long the prover runs out of stack.
 fn replayed_from(rt: &(impl Input + Print), room: &mut [u8; TEXT]) -> io::Result<()> {
     let n = io::copy(
         &mut rt.reader().take(room.len() as u64),
@@ -177,6 +262,7 @@ fn replayed_from(rt: &(impl Input + Print), room: &mut [u8; TEXT]) -> io::Result
     replayed(rt, &room[..n.min(room.len() as u64) as usize])
 }
 
+// Read into an array of this program's own size: a function for all would be generic in it and stand in a crate that all five need.
 fn main(rt: HostRuntime) -> io::Result<()> {
     let mut text = [0u8; TEXT];
     replayed_from(&rt, &mut text)

@@ -1,43 +1,48 @@
 // take_apart, put_together, planes. The mosaic or the planes are loaded; the numbers go on with the size.
-use mosaic::{MosaicAnswer, MosaicError, Planes, PlanesAnswer};
-use replay::answers::bytes_listed;
-use replay::{at, marked_bytes, rest, same_words};
-
-// A refusal comes without values.
-fn refusal_agrees(numbers: &[u64], e: MosaicError) -> bool {
-    let list = [e.number() as u64, 0];
-    same_words(numbers, &list)
-}
+use super::number_agrees;
+use mosaic::{MosaicError, Planes};
+use replay::answers::listed;
+use replay::{at, marked, rest, same};
 
 // The buffer as the call left it, of which it was lent `len` bytes: the others still have the mark, and all where it is refused.
-fn buffer_agrees(numbers: &[u64], answer: MosaicAnswer, buffer: &[u8], len: usize) -> bool {
+fn buffer_agrees(
+    numbers: &[u64],
+    answer: Result<(), MosaicError>,
+    buffer: &[u8],
+    len: usize,
+) -> bool {
     if len > buffer.len() {
         return false;
     }
     match answer {
-        MosaicAnswer::Done => {
-            bytes_listed(numbers, &buffer[0..len]) && marked_bytes(&buffer[len..])
-        }
-        MosaicAnswer::Refused(e) => refusal_agrees(numbers, e) && marked_bytes(buffer),
+        Ok(()) => { listed(numbers, &buffer[..len]) && marked(&buffer[len..]) }
+        Err(e) => number_agrees(numbers, e.number()) && marked(buffer),
     }
+}
+
+// A call that moves samples, whose buffer is cut as the line says.
+fn moved<F: Fn(&[u8], usize, usize, &mut [u8]) -> Result<(), MosaicError>>(
+    numbers: &[u64],
+    samples: &[u8],
+    buffer: &mut [u8],
+    call: F,
+) -> bool
+    requires { F.IsAlwaysCallable call }
+{
+    let len = at(numbers, 2);
+    if len > buffer.len() {
+        return false;
+    }
+    let answer = call(samples, at(numbers, 0), at(numbers, 1), &mut buffer[..len]);
+    buffer_agrees(rest(numbers, 3), answer, buffer, len)
 }
 
 pub(crate) fn take_apart(numbers: &[u64], mosaic: &[u8], planes: &mut [u8]) -> bool {
-    let len = at(numbers, 2);
-    if len > planes.len() {
-        return false;
-    }
-    let answer = mosaic::take_apart(mosaic, at(numbers, 0), at(numbers, 1), &mut planes[0..len]);
-    buffer_agrees(rest(numbers, 3), answer, planes, len)
+    moved(numbers, mosaic, planes, mosaic::take_apart)
 }
 
 pub(crate) fn put_together(numbers: &[u64], planes: &[u8], mosaic: &mut [u8]) -> bool {
-    let len = at(numbers, 2);
-    if len > mosaic.len() {
-        return false;
-    }
-    let answer = mosaic::put_together(planes, at(numbers, 0), at(numbers, 1), &mut mosaic[0..len]);
-    buffer_agrees(rest(numbers, 3), answer, mosaic, len)
+    moved(numbers, planes, mosaic, mosaic::put_together)
 }
 
 // The numbers are 0 and three lists of four behind their lengths: starts, widths and heights.
@@ -45,27 +50,27 @@ fn planes_agree(numbers: &[u64], planes: Planes) -> bool {
     let list = [
         0,
         4,
-        planes.even_even.start as u64,
-        planes.even_odd.start as u64,
-        planes.odd_even.start as u64,
-        planes.odd_odd.start as u64,
+        planes.even_even.start,
+        planes.even_odd.start,
+        planes.odd_even.start,
+        planes.odd_odd.start,
         4,
-        planes.even_even.width as u64,
-        planes.even_odd.width as u64,
-        planes.odd_even.width as u64,
-        planes.odd_odd.width as u64,
+        planes.even_even.width,
+        planes.even_odd.width,
+        planes.odd_even.width,
+        planes.odd_odd.width,
         4,
-        planes.even_even.height as u64,
-        planes.even_odd.height as u64,
-        planes.odd_even.height as u64,
-        planes.odd_odd.height as u64,
+        planes.even_even.height,
+        planes.even_odd.height,
+        planes.odd_even.height,
+        planes.odd_odd.height,
     ];
-    same_words(numbers, &list)
+    same(numbers, &list)
 }
 
 pub(crate) fn planes(numbers: &[u64]) -> bool {
     match mosaic::layout(at(numbers, 0), at(numbers, 1)) {
-        PlanesAnswer::Laid(planes) => planes_agree(rest(numbers, 2), planes),
-        PlanesAnswer::Refused(e) => refusal_agrees(rest(numbers, 2), e),
+        Ok(planes) => planes_agree(rest(numbers, 2), planes),
+        Err(e) => number_agrees(rest(numbers, 2), e.number()),
     }
 }

@@ -1,11 +1,11 @@
 // report. The stack is loaded; the numbers go on with the reference.
-use super::{FRAMES, SCRATCH, SCRATCH_WORDS};
+use super::{FRAMES, SCRATCH, SCRATCH_WORDS, Stack};
+use mtb_align::error::Error;
 use mtb_align::geometry::Rect;
-use mtb_align::report::{ReportAnswer, Summary, Terms};
+use mtb_align::report::{Summary, Terms};
 use replay::answers::{bits32, options, past_marked, refusal_agrees};
 use replay::{
-    MARK, MARK_COORDINATE, MARK_WORD, at, marked_bytes, marked_coordinates, part, rest, same_bytes,
-    same_coordinates, same_fields, same_words,
+    MARK, MARK_COORDINATE, MARK_WORD, at, marked, part, rest, same, same_coordinates, same_fields,
 };
 
 // A record is five fields of four bytes.
@@ -32,16 +32,16 @@ fn records_agree(numbers: &[u64], crop: Rect, count: usize, records: &[u8]) -> b
     }
     let end = RECORD_BYTES * count;
     let head = [
-        crop.x as u64,
-        crop.y as u64,
-        crop.width as u64,
-        crop.height as u64,
-        count as u64,
-        (RECORD_FIELDS * count) as u64,
+        crop.x,
+        crop.y,
+        crop.width,
+        crop.height,
+        count,
+        RECORD_FIELDS * count,
     ];
-    same_words(part(numbers, 0, 6), &head)
-        && same_fields(rest(numbers, 6), &records[0..end])
-        && marked_bytes(&records[end..])
+    same(part(numbers, 0, 6), &head)
+        && same_fields(rest(numbers, 6), &records[..end])
+        && marked(&records[end..])
 }
 
 // An accepted report: 0, the list of shifts, the list of verdicts, and what follows them.
@@ -60,12 +60,10 @@ fn summary_agrees(
     if n > FRAMES {
         return false;
     }
-    let head = [0, m as u64];
-    let next = [n as u64];
-    same_words(part(numbers, 0, 2), &head)
+    same(part(numbers, 0, 2), &[0, m])
         && same_coordinates(part(numbers, 2, m), shifts)
-        && same_words(part(numbers, 2 + m, 1), &next)
-        && same_bytes(part(numbers, 3 + m, n), verdicts)
+        && same(part(numbers, 2 + m, 1), &[n])
+        && same(part(numbers, 3 + m, n), verdicts)
         && records_agree(
             rest(numbers, 3 + m + n),
             summary.crop,
@@ -77,31 +75,23 @@ fn summary_agrees(
 // The answer is a report, or a refusal, after which all lists still have the mark.
 fn answer_agrees(
     numbers: &[u64],
-    answer: ReportAnswer,
+    answer: Result<Summary, Error>,
     shifts: &[i32],
     verdicts: &[u8],
     records: &[u8],
 ) -> bool {
     match answer {
-        ReportAnswer::Reported(summary) => {
-            summary_agrees(numbers, summary, shifts, verdicts, records)
-        }
-        ReportAnswer::Refused(e) => {
-            refusal_agrees(numbers, e)
-                && marked_coordinates(shifts)
-                && marked_bytes(verdicts)
-                && marked_bytes(records)
+        Ok(summary) => { summary_agrees(numbers, summary, shifts, verdicts, records) }
+        Err(e) => {
+            refusal_agrees(numbers, e) && marked(shifts) && marked(verdicts) && marked(records)
         }
     }
 }
 
-// The lists and the scratch are cut as the line says.
+// The lists and the scratch are cut as the line says, and stay parameters: they are lent to be written.
 fn reported(
     numbers: &[u64],
-    widths: &[usize],
-    heights: &[usize],
-    percentiles: &[u8],
-    samples: &[u8],
+    stack: Stack<'_>,
     shifts: &mut [i32],
     verdicts: &mut [u8],
     records: &mut [u8],
@@ -109,10 +99,10 @@ fn reported(
     words: &mut [u64],
 ) -> bool {
     let answer = mtb_align::report::report(
-        widths,
-        heights,
-        percentiles,
-        samples,
+        stack.widths,
+        stack.heights,
+        stack.percentiles,
+        stack.samples,
         at(numbers, 0),
         options(rest(numbers, 1)),
         terms(rest(numbers, 4)),
@@ -126,13 +116,7 @@ fn reported(
         && past_marked(part(numbers, 11, 2), scratch, words)
 }
 
-pub(crate) fn report(
-    numbers: &[u64],
-    widths: &[usize],
-    heights: &[usize],
-    percentiles: &[u8],
-    samples: &[u8],
-) -> bool {
+pub(crate) fn report(numbers: &[u64], stack: Stack<'_>) -> bool {
     let m = at(numbers, 7);
     if m > 2 * FRAMES {
         return false;
@@ -160,14 +144,11 @@ pub(crate) fn report(
     let mut words = [MARK_WORD; SCRATCH_WORDS];
     reported(
         numbers,
-        widths,
-        heights,
-        percentiles,
-        samples,
-        &mut shifts[0..m],
-        &mut verdicts[0..n],
-        &mut records[0..space],
-        &mut scratch[0..len],
-        &mut words[0..count],
+        stack,
+        &mut shifts[..m],
+        &mut verdicts[..n],
+        &mut records[..space],
+        &mut scratch[..len],
+        &mut words[..count],
     )
 }

@@ -1,6 +1,6 @@
 // shrink2. The samples are loaded; the numbers go on with the width.
 use replay::answers::{bytes_agree, mode};
-use replay::{at, marked_bytes, rest};
+use replay::{at, marked, rest};
 
 pub(crate) fn shrink2(numbers: &[u64], samples: &[u8], halved: &mut [u8]) -> bool {
     let out = at(numbers, 3);
@@ -12,7 +12,7 @@ pub(crate) fn shrink2(numbers: &[u64], samples: &[u8], halved: &mut [u8]) -> boo
         at(numbers, 0),
         at(numbers, 1),
         mode(at(numbers, 2)),
-        &mut halved[0..out],
+        &mut halved[..out],
     );
-    bytes_agree(rest(numbers, 4), answer, &halved[0..out]) && marked_bytes(&halved[out..])
+    bytes_agree(rest(numbers, 4), answer, &halved[..out]) && marked(&halved[out..])
 }

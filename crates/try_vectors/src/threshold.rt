@@ -1,19 +1,8 @@
 // threshold, compute_bitmaps. The samples are loaded; the numbers go on with the width.
-use super::BITMAP;
-use mtb_align::error::Outcome;
-use mtb_align::threshold::CutAnswer;
-use replay::answers::{byte, refusal_agrees, words_listed};
-use replay::{MARK_WORD, at, marked_words, part, rest, same_words};
-
-fn cut_agrees(numbers: &[u64], answer: CutAnswer) -> bool {
-    match answer {
-        CutAnswer::Cut(c) => {
-            let list = [0, c as u64];
-            same_words(numbers, &list)
-        }
-        CutAnswer::Refused(e) => refusal_agrees(numbers, e),
-    }
-}
+use super::{BITMAP, numbers_agree};
+use mtb_align::error::Error;
+use replay::answers::{byte, listed, refusal_agrees};
+use replay::{MARK_WORD, at, marked, part, rest, same};
 
 pub(crate) fn threshold(numbers: &[u64], samples: &[u8]) -> bool {
     let answer = mtb_align::threshold::threshold(
@@ -22,25 +11,27 @@ pub(crate) fn threshold(numbers: &[u64], samples: &[u8]) -> bool {
         at(numbers, 1),
         byte(at(numbers, 2)),
     );
-    cut_agrees(rest(numbers, 3), answer)
+    numbers_agree(rest(numbers, 3), answer.map(|cut| [0, u64::from(cut)]))
 }
 
 // The answer is both bitmaps, or a refusal, after which both still have the mark.
-fn bitmaps_agree(numbers: &[u64], answer: Outcome, threshold: &[u64], exclusion: &[u64]) -> bool {
+fn bitmaps_agree(
+    numbers: &[u64],
+    answer: Result<(), Error>,
+    threshold: &[u64],
+    exclusion: &[u64],
+) -> bool {
     let first = threshold.len();
     if first > BITMAP {
         return false;
     }
     match answer {
-        Outcome::Done => {
-            let second = [exclusion.len() as u64];
-            words_listed(part(numbers, 0, 2 + first), threshold)
-                && same_words(part(numbers, 2 + first, 1), &second)
-                && same_words(rest(numbers, 3 + first), exclusion)
+        Ok(()) => {
+            listed(part(numbers, 0, 2 + first), threshold)
+                && same(part(numbers, 2 + first, 1), &[exclusion.len()])
+                && same(rest(numbers, 3 + first), exclusion)
         }
-        Outcome::Refused(e) => {
-            refusal_agrees(numbers, e) && marked_words(threshold) && marked_words(exclusion)
-        }
+        Err(e) => { refusal_agrees(numbers, e) && marked(threshold) && marked(exclusion) }
     }
 }
 
@@ -65,26 +56,20 @@ fn bitmaps_in(
     exclusion: &mut [u64],
 ) -> bool {
     let first = at(numbers, 4);
-    if first > threshold.len() {
-        return false;
-    }
-    if first > BITMAP {
+    if first > threshold.len().min(BITMAP) {
         return false;
     }
     let second = at(numbers, 5);
-    if second > exclusion.len() {
-        return false;
-    }
-    if second > BITMAP {
+    if second > exclusion.len().min(BITMAP) {
         return false;
     }
     computed(
         numbers,
         samples,
-        &mut threshold[0..first],
-        &mut exclusion[0..second],
-    ) && marked_words(&threshold[first..])
-        && marked_words(&exclusion[second..])
+        &mut threshold[..first],
+        &mut exclusion[..second],
+    ) && marked(&threshold[first..])
+        && marked(&exclusion[second..])
 }
 
 pub(crate) fn compute_bitmaps(numbers: &[u64], samples: &[u8]) -> bool {

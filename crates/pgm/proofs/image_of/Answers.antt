@@ -15,17 +15,17 @@ returns-then-longest-gt-LONGEST_SIDE c =
     let a = c.args in
     over_stop (image a.head) (sizes_of a.head) (a.length - a.head.start) (omega arith)
 
-pub returns-then-highest-ne-HIGHEST : goal.returns-then-highest-ne-HIGHEST
-returns-then-highest-ne-HIGHEST c =
+pub returns-then-head-ne-HIGHEST : goal.returns-then-head-ne-HIGHEST
+returns-then-head-ne-HIGHEST c =
     let a = c.args in
-    highest_stop (image a.head) (sizes_of a.head) (a.length - a.head.start) (omega arith) c.if-highest-ne-HIGHEST.true
+    highest_stop (image a.head) (sizes_of a.head) (a.length - a.head.start) (omega arith) c.if-head-ne-HIGHEST.true
 
 pub returns-then-length-head : goal.returns-then-length-head
 returns-then-length-head c =
     let a = c.args in
-    short_stop (image a.head) (sizes_of a.head) (a.length - a.head.start) (omega arith) c.if-highest-ne-HIGHEST.false c.if-length-head.true
+    short_stop (image a.head) (sizes_of a.head) (a.length - a.head.start) (omega arith) c.if-head-ne-HIGHEST.false c.if-length-head.true
 
 pub returns : goal.returns
 returns c =
     let a = c.args in
-    all_pass (image a.head) (sizes_of a.head) (a.length - a.head.start) (omega arith) c.if-highest-ne-HIGHEST.false c.if-length-head.false
+    all_pass (image a.head) (sizes_of a.head) (a.length - a.head.start) (omega arith) c.if-head-ne-HIGHEST.false c.if-length-head.false

@@ -27,8 +27,8 @@ room f {blank} {feed} p q =
     let start : 3 + blank + 1 + feed + 5 ≡ length (header_bytes f.width f.height) = omega (arith, header_long f.width f.height) in
     (start, omega (arith, start, pgm_long f))
 
-pub returns-then-larger-gt-LONGEST_SIDE : goal.returns-then-larger-gt-LONGEST_SIDE
-returns-then-larger-gt-LONGEST_SIDE c =
+pub returns-then-max-gt-LONGEST_SIDE : goal.returns-then-max-gt-LONGEST_SIDE
+returns-then-max-gt-LONGEST_SIDE c =
     let f = frame c.args.width c.args.height c.args.samples.now in
     as_it_was f _ (over_stop _ f _ (omega arith))
 

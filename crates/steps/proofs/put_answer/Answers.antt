@@ -1,14 +1,18 @@
 use mathlib.Core.Path.{◌≡◌, sym, ap, ◌∙◌}
 use mathlib.Core.Bool.{cond}
+use mathlib.Core.List.{List, ◌++◌}
 use native.Mathlib.Omega.{arith}
 use lib.Dec.{eqb}
-use lib.ListN.{length, replicate}
-use Rattle.definitions.specs.Geometry.{listed}
+use Prim.Native.Nat.{ℕ}
+use lib.ListN.{length, replicate, length-replicate}
+use Rattle.definitions.specs.Build.{joined}
+use Rattle.definitions.specs.Geometry.{Rect, listed}
 use Rattle.definitions.specs.Align.{Options, Stack, shifts}
 use Rattle.definitions.specs.Report.{Terms, verdicts}
 use Rattle.mtb_align.specs.Search.{options_in}
-use Rattle.mtb_align.specs.Survey.{Reported, terms_in, report_answer}
-use Rattle.steps.specs.Text.{refusal_text, input_stack, input_terms}
+use Rattle.mtb_align.specs.Survey.{Reported, reported_in, terms_in}
+use Rattle.mtb_align.specs.Answers as answers
+use Rattle.steps.specs.Text.{heading, refusal_text, input_stack, input_terms}
 use Rattle.steps.proofs.Called.{Call, answered, turned_down, summary_text, left, input_stack_lem, few_needed, text_none}
 use Rattle.steps.proofs.Puts.{put_as}
 use Rattle.steps.proofs.put_answer.Goals.{After-report-answer}
@@ -54,40 +58,44 @@ lists c =
       f.written.judged ∙ left (called c) _ _ ∙ (λ i. cond old a.verdicts.now (verdicts (s i) ((called c).terms i))),
     )
 
+-- the text of as many frames
+counted : (r : Rect) (frame : ℕ → List ℕ) {m n : ℕ} → m ≡ n → heading m r ++ joined m frame ≡ heading n r ++ joined n frame
+counted r frame e = ap (λ (n : ℕ). heading n r ++ joined n frame) e
+
 pub put_summary-requires : goal.put_summary-requires
 put_summary-requires c =
     let p = c.requires in
-    let e = answered (called (goal.at.put_summary-requires c).After-report-answer) (ap report_answer (sym c.in-Reported.is) ∙ c.report-answer.ensures.written.answered) in (
-      omega (arith, ap (λ (x : Reported). x.records) e.1, few_needed (called (goal.at.put_summary-requires c).After-report-answer) e.0),
-      omega (arith, c.report-answer.auto.shifts, p.samples_len.1),
-      omega
-          (arith, c.report-answer.auto.verdicts, p.samples_len.2),
+    let e = answered (called (goal.at.put_summary-requires c).After-report-answer) (ap (answers.answered reported_in) (sym c.in-Ok.is) ∙ c.report-answer.ensures.written.answered) in (
+      omega (arith, ap (λ (x : Reported). x.records) e.1, few_needed (called (goal.at.put_summary-requires c).After-report-answer) e.0, c.report-answer.auto.records, length-replicate {A = ℕ} 140 0),
+      omega (arith, c.report-answer.auto.shifts, c.report-answer.auto.verdicts, p.samples_len.1, p.samples_len.2),
     )
 
-pub returns-in-Reported : goal.returns-in-Reported
-returns-in-Reported c =
+pub returns-in-Ok : goal.returns-in-Ok
+returns-in-Ok c =
     let a = c.args in
     let f = c.report-answer.ensures in
-    let e = answered (called (goal.at.returns-in-Reported c).After-report-answer) (ap report_answer (sym c.in-Reported.is) ∙ f.written.answered) in
-    let l = lists (goal.at.returns-in-Reported c).After-report-answer in
+    let e = answered (called (goal.at.returns-in-Ok c).After-report-answer) (ap (answers.answered reported_in) (sym c.in-Ok.is) ∙ f.written.answered) in
+    let l = lists (goal.at.returns-in-Ok c).After-report-answer in
+    let judged : length c.report-answer.new.verdicts ≡ length a.widths.now = c.report-answer.auto.verdicts ∙ c.requires.samples_len.2 in
     record {
       text = put_as c.put_summary.ensures
-          (summary_text (called (goal.at.returns-in-Reported c).After-report-answer) e.0 a.shifts.now a.verdicts.now (replicate 140 0) (ap (λ (x : Reported). x.crop) e.1)
+          (counted _ _ judged
+          ∙ summary_text (called (goal.at.returns-in-Ok c).After-report-answer) e.0 a.shifts.now a.verdicts.now (replicate 140 0) (ap (λ (x : Reported). x.crop) e.1)
           (ap (λ (x : Reported). x.records) e.1)
           f.written.placed f.written.judged f.written.recorded);
       shifts = l.0;
       verdicts = l.1;
     }
 
-pub returns-in-Refused : goal.returns-in-Refused
-returns-in-Refused c =
+pub returns-in-Err : goal.returns-in-Err
+returns-in-Err c =
     let a = c.args in
-    let e = turned_down (called (goal.at.returns-in-Refused c).After-report-answer) _ (ap report_answer (sym c.in-Refused.is) ∙ c.report-answer.ensures.written.answered) in
-    let l = lists (goal.at.returns-in-Refused c).After-report-answer in
+    let e = turned_down (called (goal.at.returns-in-Err c).After-report-answer) _ (ap (answers.answered reported_in) (sym c.in-Err.is) ∙ c.report-answer.ensures.written.answered) in
+    let l = lists (goal.at.returns-in-Err c).After-report-answer in
     record {
       text = put_as c.put_refusal.ensures
-          (ap refusal_text (c.number.ensures ∙ e.1) ∙ text_none a.samples.now (length a.widths.now) (called (goal.at.returns-in-Refused c).After-report-answer).whole
-          (called (goal.at.returns-in-Refused c).After-report-answer).most e.0);
+          (ap refusal_text (c.number.ensures ∙ e.1) ∙ text_none a.samples.now (length a.widths.now) (called (goal.at.returns-in-Err c).After-report-answer).whole
+          (called (goal.at.returns-in-Err c).After-report-answer).most e.0);
       shifts = l.0;
       verdicts = l.1;
     }

@@ -1,7 +1,7 @@
 use Prim.Native.Nat.{◌+◌, ◌-◌}
 use native.Mathlib.Omega.{arith}
 use lib.ListN.{length, take, drop}
-use Rattle.mtb_align.proofs.Costs.{Taken, asks, gives, Bounds, bounds, taken_parts}
+use Rattle.mtb_align.proofs.Costs.{Taken, words_less, sized, gives, Bounds, bounds, taken_parts}
 use Rattle.mtb_align.proofs.align.step_around.Goals.{After-halved_samples-half, After-side_at-2}
 use Rattle.mtb_align.proofs.align.step_around.Goals as goal
 
@@ -9,7 +9,7 @@ use Rattle.mtb_align.proofs.align.step_around.Goals as goal
 
 found : (c : After-halved_samples-half)
     → let x = c.args in
-    Bounds x.frames.width x.frames.height x.last x.level
+    Bounds x.pair.now.width x.pair.now.height x.last x.level
     c.halved_samples-start.result c.halved_samples-end.result c.halved_samples-half.result (length x.bytes.now)
 found c =
     let p = c.requires in
@@ -21,8 +21,8 @@ parts : (c : After-side_at-2)
     let from = c.halved_samples-start.result in
     let end = c.halved_samples-end.result in
     let half = c.halved_samples-half.result in
-    Bounds x.frames.width x.frames.height x.last x.level from end half (length x.bytes.now)
-    → Taken x.frames x.reference.now x.target.now x.level c.side_at.result c.side_at-2.result
+    Bounds x.pair.now.width x.pair.now.height x.last x.level from end half (length x.bytes.now)
+    → Taken x.pair.now x.level c.side_at.result c.side_at-2.result
     (take (end - from) (drop from x.bytes.now))
     (take (half + end - (half + from)) (drop (half + from) x.bytes.now))
 parts c b =
@@ -35,29 +35,36 @@ overflow_add-behind c = let b = found c in omega arith
 pub overflow_add-behind_end : goal.overflow_add-behind_end
 overflow_add-behind_end c = let b = found c in omega arith
 
-pub slice_bounds-level_step-count : goal.slice_bounds-level_step-count
-slice_bounds-level_step-count c = let b = found (goal.at.slice_bounds-level_step-count c).After-halved_samples-half in omega arith
+pub slice_bounds-halved-count : goal.slice_bounds-halved-count
+slice_bounds-halved-count c = let b = found (goal.at.slice_bounds-halved-count c).After-halved_samples-half in omega arith
 
-pub slice_bounds-level_step-start : goal.slice_bounds-level_step-start
-slice_bounds-level_step-start c = let b = found (goal.at.slice_bounds-level_step-start c).After-halved_samples-half in omega arith
+pub slice_bounds-halved-start : goal.slice_bounds-halved-start
+slice_bounds-halved-start c = let b = found (goal.at.slice_bounds-halved-start c).After-halved_samples-half in omega arith
 
-pub slice_bounds-level_step-end : goal.slice_bounds-level_step-end
-slice_bounds-level_step-end c = let b = found (goal.at.slice_bounds-level_step-end c).After-halved_samples-half in omega arith
+pub slice_bounds-halved-end : goal.slice_bounds-halved-end
+slice_bounds-halved-end c = let b = found (goal.at.slice_bounds-halved-end c).After-halved_samples-half in omega arith
 
-pub slice_bounds-level_step-count-2 : goal.slice_bounds-level_step-count-2
-slice_bounds-level_step-count-2 c = let b = found (goal.at.slice_bounds-level_step-count-2 c).After-halved_samples-half in omega arith
+pub slice_bounds-halved-count-2 : goal.slice_bounds-halved-count-2
+slice_bounds-halved-count-2 c = let b = found (goal.at.slice_bounds-halved-count-2 c).After-halved_samples-half in omega arith
 
-pub slice_bounds-level_step-start-2 : goal.slice_bounds-level_step-start-2
-slice_bounds-level_step-start-2 c = let b = found (goal.at.slice_bounds-level_step-start-2 c).After-halved_samples-half in omega arith
+pub slice_bounds-halved-start-2 : goal.slice_bounds-halved-start-2
+slice_bounds-halved-start-2 c = let b = found (goal.at.slice_bounds-halved-start-2 c).After-halved_samples-half in omega arith
 
-pub slice_bounds-level_step-end-2 : goal.slice_bounds-level_step-end-2
-slice_bounds-level_step-end-2 c = let b = found (goal.at.slice_bounds-level_step-end-2 c).After-halved_samples-half in omega arith
+pub slice_bounds-halved-end-2 : goal.slice_bounds-halved-end-2
+slice_bounds-halved-end-2 c = let b = found (goal.at.slice_bounds-halved-end-2 c).After-halved_samples-half in omega arith
+
+pub invariant_of-halved : goal.invariant_of-halved
+invariant_of-halved c =
+    let s = goal.at.invariant_of-halved c in
+    let p = c.args.pair.now in
+    let q = sized (parts s.After-side_at-2 (found s.After-halved_samples-half)) in
+    record { wide = q.wide; high = q.high; first_in = p.first_in; second_in = p.second_in; reference_whole = q.reference_whole; target_whole = q.target_whole }
 
 pub level_step-requires-2 : goal.level_step-requires-2
 level_step-requires-2 c =
     let s = goal.at.level_step-requires-2 c in
     let p = c.requires in
-    (asks (parts s.After-side_at-2 (found s.After-halved_samples-half)) p.levelled, p.level_le_last.1)
+    (omega (arith, words_less (parts s.After-side_at-2 (found s.After-halved_samples-half)), p.levelled.maps), p.level_le_last.1)
 
 pub returns : goal.returns
 returns c =

@@ -30,60 +30,62 @@ few w h bits a b e = omega (arith, e, levels_most w h bits a b)
 -- both pyramids stand in the scratch
 both : (c : After-fill-2)
     → let x = c.args in
-    let f = x.frames in
-    Both (mode_of f.options.shrink) f.width f.height c.shrinks-last.result x.reference.now x.target.now x.bytes.now c.fill-2.new.scratch
+    let f = x.pair.now in
+    Both (mode_of f.options.shrink) f.width f.height c.shrinks-last.result f.reference.now f.target.now x.bytes.now c.fill-2.new.scratch
 both c =
     let x = c.args in
-    let f = x.frames in
+    let f = x.pair.now in
+    let u = c.reference_frame-reference.ensures in
+    let v = c.target_frame-target.ensures in
     let m = c.shrinks-last.result in
     let mode = mode_of f.options.shrink in
-    let room : 2 * halved_samples f.width f.height m ≤ length x.bytes.now = omega (arith, need_is f.width f.height f.options.bits c.shrinks-last.ensures, c.requires.1) in
-    both_stored mode f.width f.height m x.reference.now x.target.now x.bytes.now room c.fill.ensures
-    (c.fill-2.ensures ∙ ap (λ (at : ℕ). sets c.fill.new.scratch at (pyramid mode f.width f.height x.target.now m)) c.halved_samples-half.ensures)
+    let room : 2 * halved_samples f.width f.height m ≤ length x.bytes.now = omega (arith, need_is f.width f.height f.options.bits c.shrinks-last.ensures, c.requires.0) in
+    both_stored mode f.width f.height m f.reference.now f.target.now x.bytes.now room (rw (u.0, u.1, u.2) at c.fill.ensures)
+    ((rw (v.0, v.1, v.2) at c.fill-2.ensures) ∙ ap (λ (at : ℕ). sets c.fill.new.scratch at (pyramid mode f.width f.height f.target.now m)) c.halved_samples-half.ensures)
 
 pub halved_samples-half-requires : goal.halved_samples-half-requires
-halved_samples-half-requires c = let p = c.requires.0 in (p.wide, p.high, few _ _ _ p.wide p.high c.shrinks-last.ensures)
+halved_samples-half-requires c = let p = c.args.pair.now in few _ _ _ p.wide p.high c.shrinks-last.ensures
 
 pub fill-requires : goal.fill-requires
 fill-requires c =
-    let p = c.requires.0 in
-    (p.wide, p.high, few _ _ _ p.wide p.high c.shrinks-last.ensures, p.reference_whole, omega (arith, need_is _ _ _ c.shrinks-last.ensures, c.requires.1))
+    let p = c.args.pair.now in
+    let u = c.reference_frame-reference.ensures in
+    rw (u.1, u.2) (few _ _ _ p.wide p.high c.shrinks-last.ensures, omega (arith, need_is _ _ _ c.shrinks-last.ensures, c.requires.0))
 
 pub fill-requires-2 : goal.fill-requires-2
 fill-requires-2 c =
     let x = c.args in
-    let f = x.frames in
-    let p = c.requires.0 in (
-      p.wide,
-      p.high,
-      few _ _ _ p.wide p.high c.shrinks-last.ensures,
-      p.target_whole,
+    let f = x.pair.now in
+    let r = c.reference_frame-reference.result in
+    let v = c.target_frame-target.ensures in
+    rw (v.1, v.2) (
+      few _ _ _ f.wide f.high c.shrinks-last.ensures,
       omega (
         arith,
         need_is _ _ _ c.shrinks-last.ensures,
-        c.requires.1,
+        c.requires.0,
         c.halved_samples-half.ensures,
         ap length c.fill.ensures,
-        length-sets x.bytes.now 0 (pyramid (mode_of f.options.shrink) f.width f.height x.reference.now c.shrinks-last.result),
+        length-sets x.bytes.now 0 (pyramid (mode_of f.options.shrink) r.width r.height r.samples.now c.shrinks-last.result),
       ),
     )
 
 pub step_at-requires-clause-levelled : goal.step_at-requires-clause-levelled
 step_at-requires-clause-levelled c =
-    let p = c.requires.0 in
+    let p = c.args.pair.now in
     let b = both (goal.at.step_at-requires-clause-levelled c).After-fill-2 in
     record {
-      frames = p;
+      maps = c.requires.1;
       few = few _ _ _ p.wide p.high c.shrinks-last.ensures;
-      room = omega (arith, need_is _ _ _ c.shrinks-last.ensures, c.requires.1, b.free.long);
+      room = omega (arith, need_is _ _ _ c.shrinks-last.ensures, c.requires.0, b.free.long);
       reference_halved = b.first;
       target_halved = b.second;
     }
 
 pub returns-clause-result_value : goal.returns-clause-result_value
-returns-clause-result_value c = whole (options_in c.args.frames.options) _ _ _ _ c.shrinks-last.ensures c.step_at.ensures.result_value
+returns-clause-result_value c = whole (options_in c.args.pair.now.options) _ _ _ _ c.shrinks-last.ensures c.step_at.ensures.result_value
 
 pub returns-clause-free_up_to : goal.returns-clause-free_up_to
 returns-clause-free_up_to c =
-    let f = c.args.frames in
+    let f = c.args.pair.now in
     free_wider (omega (arith, need_is f.width f.height f.options.bits c.shrinks-last.ensures)) (both (goal.at.returns-clause-free_up_to c).After-fill-2).free

@@ -6,13 +6,14 @@ use mir.Syntax.{w32}
 use mir.Val.{SFits}
 use Rattle.definitions.specs.Geometry.{Shift, offset}
 use Rattle.definitions.specs.Refusals.{accepted, answer, shift_checks}
-use Rattle.laws.specs.checks.Checks.{not_both, same_value}
+use Rattle.laws.specs.checks.Checks.{same_value}
 use Rattle.laws.specs.search.StepBounds.{offset_within, far_accepted}
-use Rattle.mtb_align.specs.Answers.{shift_in, shift_answer}
+use Rattle.mtb_align.specs.Answers.{answered, shift_in}
+use Rattle.mtb_align.proofs.Answered.{is_accepted}
 use Rattle.mtb_align.proofs.align.summed.Goals.{After-offset}
 use Rattle.mtb_align.proofs.align.summed.Goals as goal
 
-moved : (c : After-offset) → let x = c.args in shift_answer c.offset.result ≡ accepted (offset (shift_in x.a) (shift_in x.b))
+moved : (c : After-offset) → let x = c.args in answered shift_in c.offset.result ≡ accepted (offset (shift_in x.a) (shift_in x.b))
 moved c =
     let a = shift_in c.args.a in
     let b = shift_in c.args.b in
@@ -22,8 +23,8 @@ moved c =
     ∙ ap (λ (d : Shift). answer (shift_checks (offset a d)) (offset a d)) (λ i. record { x = to_z-of_z x i; y = to_z-of_z y i })
     ∙ far_accepted (offset a b) (offset_within 1048576 1048576 a b c.requires.0 c.requires.1)
 
-pub returns-in_default : goal.returns-in_default
-returns-in_default c = not_both (sym (moved (goal.at.returns-in_default c).After-offset) ∙ ap shift_answer c.in_default.is)
+pub unwrap-requires : goal.unwrap-requires
+unwrap-requires c = is_accepted shift_in _ (moved (goal.at.unwrap-requires c).After-offset)
 
 pub returns : goal.returns
-returns c = same_value (ap shift_answer (sym c.in-Moved.is) ∙ moved (goal.at.returns c).After-offset)
+returns c = same_value (ap (answered shift_in) (sym c.unwrap.ensures) ∙ moved (goal.at.returns c).After-offset)

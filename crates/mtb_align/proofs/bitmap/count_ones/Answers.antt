@@ -31,10 +31,11 @@ unfolding total_checks
 returns-then-words-height c =
     long_stop _ _ _ c.words_per_row.ensures (sides (goal.at.returns-then-words-height c).Else-side_over) _ _ _ c.if-words-height.true
 
+pub invariant_of-sides : goal.invariant_of-sides
+invariant_of-sides c = let s = sides (goal.at.invariant_of-sides c).Else-side_over in record { wide = s.0; high = s.1 }
+
 pub padding_set-requires : goal.padding_set-requires
-padding_set-requires c =
-    let s = sides (goal.at.padding_set-requires c).Else-side_over in
-    (s.0, s.1, long (goal.at.padding_set-requires c).Else-words-height)
+padding_set-requires c = long (goal.at.padding_set-requires c).Else-words-height
 
 pub returns-then-padding_set : goal.returns-then-padding_set
 unfolding total_checks
@@ -52,6 +53,3 @@ returns c =
     let z = ltb-false _ _ (sym c.padding_set.ensures ∙ c.if-padding_set.false) in
     ap accepted (c.ones_in.ensures ∙ all_total (padding_clear _ _ _ (long (goal.at.returns c).Else-words-height) (omega (arith, z))))
     ∙ long_skip _ _ _ c.words_per_row.ensures (sides (goal.at.returns c).Else-side_over) _ _ c.if-words-height.false _ (padded_skip _ _ _ _ _ z (done _))
-
-pub words_per_row-requires : goal.words_per_row-requires
-words_per_row-requires c = (sides (goal.at.words_per_row-requires c).Else-side_over).0

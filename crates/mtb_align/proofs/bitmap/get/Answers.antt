@@ -1,49 +1,42 @@
-use mathlib.Core.Path.{sym, ap, ◌∙◌}
+use mathlib.Core.Path.{◌≡◌, sym, ap, ◌∙◌}
 use Prim.Native.Nat.{ℕ, ◌+◌, ◌*◌, ◌/◌, ◌%◌, ◌≤◌, ◌<◌}
 use native.Mathlib.Omega.{arith}
 use lib.Dec.{eqb}
-use lib.ListN.{get_or}
+use lib.ListN.{length, get_or}
 use Rattle.definitions.specs.Bitmap.{bit_of, bit_at}
-use Rattle.definitions.specs.Refusals.{pixel_checks, accepted}
-use Rattle.laws.specs.bitmaps.Bitmaps.{word_inside, bit_test}
-use Rattle.laws.specs.checks.Checks.{sides_within, sides_stop}
-use Rattle.mtb_align.proofs.Pixels.{bitmap_fits, inside, long_stop, column_stop, row_stop, pixel_taken}
-use Rattle.mtb_align.proofs.bitmap.get.Goals.{Else-side_over, Else-y-height}
+use Rattle.definitions.specs.Refusals.{pixel_checks, accepted, answer}
+use Rattle.laws.specs.bitmaps.Bitmaps.{bit_test}
+use Rattle.laws.specs.checks.Checks.{accepted_too, refused_too}
+use Rattle.mtb_align.specs.Answers.{refusal}
+use Rattle.mtb_align.proofs.Answered.{passed_on}
+use Rattle.mtb_align.proofs.Pixels.{word_of_pixel}
+use Rattle.mtb_align.proofs.bitmap.get.Goals.{After-words_per_row-n}
 use Rattle.mtb_align.proofs.bitmap.get.Goals as goal
 
--- past the first check
-sides : (c : Else-side_over) → let x = c.args in (x.width ≤ 8192) × (x.height ≤ 8192)
-sides c = sides_within _ _ (sym c.side_over.ensures ∙ c.if-side_over.false)
+pub returns-in_err-pixel_fits : goal.returns-in_err-pixel_fits
+returns-in_err-pixel_fits c =
+    let x = c.args in
+    let l = pixel_checks x.width x.height (length x.words.now) x.x x.y in
+    let p : refusal c.in_err-pixel_fits.field-0.0 ≡ answer l (tt {0}) = c.in_err-pixel_fits.ensures in
+    passed_on _ _ _ c.from_residual.ensures ∙ sym (refused_too (tt {0}) _ l (sym p))
 
 -- the word that is read
-read-inside : (c : Else-y-height) →
+read : (c : After-words_per_row-n) →
     let x = c.args in
-    (x.y * c.words_per_row-n.result + x.x / 64 < x.height * c.words_per_row-n.result) × (x.height * c.words_per_row-n.result ≤ 1048576)
-read-inside c =
-    inside _ _ _ c.words_per_row-n.ensures (sides_within _ _ (sym c.side_over.ensures ∙ c.if-side_over.false)) _ _ (word_inside _ _ c.if-x-width.false) c.if-y-height.false
+    (x.y * c.words_per_row-n.result + x.x / 64 < length x.words.now) × (length x.words.now ≤ 1048576)
+read c = word_of_pixel _ _ _ _ _ _ c.words_per_row-n.ensures c.in_ok-pixel_fits.ensures
 
-pub returns-then-side_over : goal.returns-then-side_over
-unfolding pixel_checks
-returns-then-side_over c = sides_stop _ _ _ _ (sym c.side_over.ensures ∙ c.if-side_over.true)
+pub overflow_mul-result : goal.overflow_mul-result
+overflow_mul-result c = omega (arith, read (goal.at.overflow_mul-result c).After-words_per_row-n)
 
-pub overflow_mul-height : goal.overflow_mul-height
-overflow_mul-height c = omega (arith, bitmap_fits _ _ _ c.words_per_row-n.ensures (sides (goal.at.overflow_mul-height c).Else-side_over))
+pub overflow_add-result : goal.overflow_add-result
+overflow_add-result c = omega (arith, read (goal.at.overflow_add-result c).After-words_per_row-n)
 
-pub returns-then-words-height : goal.returns-then-words-height
-unfolding pixel_checks
-returns-then-words-height c =
-    long_stop _ _ _ c.words_per_row-n.ensures (sides (goal.at.returns-then-words-height c).Else-side_over) _ _ _ c.if-words-height.true
-
-pub returns-then-x-width : goal.returns-then-x-width
-returns-then-x-width c =
-    column_stop _ _ _ c.words_per_row-n.ensures (sides (goal.at.returns-then-x-width c).Else-side_over) _ _ c.if-words-height.false _ _ c.if-x-width.true
-
-pub returns-then-y-height : goal.returns-then-y-height
-returns-then-y-height c =
-    row_stop _ _ _ c.words_per_row-n.ensures (sides (goal.at.returns-then-y-height c).Else-side_over) _ _ c.if-words-height.false _ _ c.if-x-width.false c.if-y-height.true
+pub offset_bounds-words-y : goal.offset_bounds-words-y
+offset_bounds-words-y c = omega (arith, read (goal.at.offset_bounds-words-y c).After-words_per_row-n)
 
 pub bounds-words-y : goal.bounds-words-y
-bounds-words-y c = omega (arith, read-inside (goal.at.bounds-words-y c).Else-y-height, c.if-words-height.false)
+bounds-words-y c = (read (goal.at.bounds-words-y c).After-words_per_row-n).0
 
 pub returns : goal.returns
 unfolding bit_at
@@ -52,7 +45,4 @@ returns c =
     ap (λ (v : ℕ). accepted (eqb v 1))
     (bit_test (get_or x.words.now (x.y * c.words_per_row-n.result + x.x / 64) 0) (x.x % 64)
     ∙ ap (λ (n : ℕ). bit_of (get_or x.words.now (x.y * n + x.x / 64) 0) (x.x % 64)) c.words_per_row-n.ensures)
-    ∙ pixel_taken _ _ _ c.words_per_row-n.ensures (sides (goal.at.returns c).Else-side_over) _ _ c.if-words-height.false _ _ c.if-x-width.false c.if-y-height.false
-
-pub words_per_row-n-requires : goal.words_per_row-n-requires
-words_per_row-n-requires c = (sides (goal.at.words_per_row-n-requires c).Else-side_over).0
+    ∙ sym (accepted_too (tt {0}) _ _ (sym c.in_ok-pixel_fits.ensures))

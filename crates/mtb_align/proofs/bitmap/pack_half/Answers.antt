@@ -22,31 +22,31 @@ turn s table c t from i span sum m l e h q =
 
 more : (c : In-loop-i) → let x = c.args in let at = x.from + (c.loop-i.i - 1) in
     get_or x.samples.now at 0 < 256
-    → c.loop-i.sum * 2 + get_or x.table.now (get_or x.samples.now at 0) 0 ≡ two_of x.samples.now x.cut x.tolerance at (x.span - (c.loop-i.i - 1))
+    → c.loop-i.sum * 2 + get_or x.table.entries.now (get_or x.samples.now at 0) 0 ≡ two_of x.samples.now x.table.cut x.table.tolerance at (x.span - (c.loop-i.i - 1))
 more c h =
     let x = c.args in
-    turn x.samples.now x.table.now x.cut x.tolerance x.from c.loop-i.i x.span c.loop-i.sum (omega arith) (omega arith) c.requires.2 h c.loop-i.invariant.1
+    turn x.samples.now x.table.entries.now x.table.cut x.table.tolerance x.from c.loop-i.i x.span c.loop-i.sum (omega arith) (omega arith) x.table.filled h c.loop-i.invariant
 
 pub loop-i-init : goal.loop-i-init
 loop-i-init c =
     let x = c.args in
     let z : 0 ≡ x.span - x.span = omega arith in
-    (omega arith, two_none _ _ _ _ ∙ ap (two_of x.samples.now x.cut x.tolerance (x.from + x.span)) z)
+    two_none _ _ _ _ ∙ ap (two_of x.samples.now x.table.cut x.table.tolerance (x.from + x.span)) z
 
 pub overflow_mul-sum : goal.overflow_mul-sum
 overflow_mul-sum c =
     let l = c.loop-i in
     let x = c.args in
-    omega (arith, l.invariant.1, two_room x.samples.now x.cut x.tolerance (x.from + l.i) (x.span - l.i) (omega arith))
+    omega (arith, l.invariant, two_room x.samples.now x.table.cut x.table.tolerance (x.from + l.i) (x.span - l.i) (omega arith))
 
 pub overflow_add-sum-in-loop-i : goal.overflow_add-sum-in-loop-i
 overflow_add-sum-in-loop-i c =
     let x = c.args in
     let h : get_or x.samples.now (x.from + (c.loop-i.i - 1)) 0 < 256 = omega (arith, c.type_inv.samples (x.from + (c.loop-i.i - 1))) in
-    omega (arith, more (goal.at.overflow_add-sum-in-loop-i c).In-loop-i h, two_lt x.samples.now x.cut x.tolerance (x.from + (c.loop-i.i - 1)) (x.span - (c.loop-i.i - 1)) (omega arith))
+    omega (arith, more (goal.at.overflow_add-sum-in-loop-i c).In-loop-i h, two_lt x.samples.now x.table.cut x.table.tolerance (x.from + (c.loop-i.i - 1)) (x.span - (c.loop-i.i - 1)) (omega arith))
 
 pub loop-i-preserved : goal.loop-i-preserved
 loop-i-preserved c =
     let x = c.args in
     let h : get_or x.samples.now (x.from + (c.loop-i.i - 1)) 0 < 256 = omega (arith, c.type_inv.samples (x.from + (c.loop-i.i - 1))) in
-    (omega arith, more (goal.at.loop-i-preserved c).In-loop-i h)
+    more (goal.at.loop-i-preserved c).In-loop-i h

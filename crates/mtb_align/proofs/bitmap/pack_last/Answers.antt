@@ -11,8 +11,8 @@ pub returns-then-span-lt32 : goal.returns-then-span-lt32
 returns-then-span-lt32 c =
     let x = c.args in
     let s = x.samples.now in (
-      omega (arith, c.join_halves.ensures.0, c.pack_half.ensures, two_low s x.cut x.tolerance x.from x.span (omega arith)),
-      omega (arith, c.join_halves.ensures.1, c.pack_half.ensures, two_high s x.cut x.tolerance x.from x.span (omega arith)),
+      omega (arith, c.join_halves.ensures.0, c.pack_half.ensures, two_low s x.table.cut x.table.tolerance x.from x.span (omega arith)),
+      omega (arith, c.join_halves.ensures.1, c.pack_half.ensures, two_high s x.table.cut x.table.tolerance x.from x.span (omega arith)),
     )
 
 pub returns : goal.returns
@@ -22,8 +22,8 @@ returns c =
     let h = c.pack_half-a in
     let k = c.pack_half-b in
     let e : 32 + (x.span - 32) ≡ x.span = omega arith in (
-      c.join_halves-2.ensures.0 ∙ joined_low s x.cut x.tolerance x.from (x.span - 32) h.result k.result (omega arith) h.ensures k.ensures
-          ∙ ap (λ (n : ℕ). word_of n (bits_from s (threshold_bit x.cut) x.from)) e,
-      c.join_halves-2.ensures.1 ∙ joined_high s x.cut x.tolerance x.from (x.span - 32) h.result k.result (omega arith) h.ensures k.ensures
-          ∙ ap (λ (n : ℕ). word_of n (bits_from s (exclusion_bit x.cut x.tolerance) x.from)) e,
+      c.join_halves-2.ensures.0 ∙ joined_low s x.table.cut x.table.tolerance x.from (x.span - 32) h.result k.result (omega arith) h.ensures k.ensures
+          ∙ ap (λ (n : ℕ). word_of n (bits_from s (threshold_bit x.table.cut) x.from)) e,
+      c.join_halves-2.ensures.1 ∙ joined_high s x.table.cut x.table.tolerance x.from (x.span - 32) h.result k.result (omega arith) h.ensures k.ensures
+          ∙ ap (λ (n : ℕ). word_of n (bits_from s (exclusion_bit x.table.cut x.table.tolerance) x.from)) e,
     )

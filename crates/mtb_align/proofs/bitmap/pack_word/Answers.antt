@@ -9,6 +9,6 @@ returns c =
     let s = x.samples.now in
     let h = c.pack_half-a in
     let k = c.pack_half-b in (
-      c.join_halves.ensures.0 ∙ joined_low s x.cut x.tolerance x.from 32 h.result k.result (omega arith) h.ensures k.ensures,
-      c.join_halves.ensures.1 ∙ joined_high s x.cut x.tolerance x.from 32 h.result k.result (omega arith) h.ensures k.ensures,
+      c.join_halves.ensures.0 ∙ joined_low s x.table.cut x.table.tolerance x.from 32 h.result k.result (omega arith) h.ensures k.ensures,
+      c.join_halves.ensures.1 ∙ joined_high s x.table.cut x.table.tolerance x.from 32 h.result k.result (omega arith) h.ensures k.ensures,
     )

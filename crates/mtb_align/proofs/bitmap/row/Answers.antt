@@ -39,6 +39,3 @@ returns c =
     (accepts _ _ _ (long_skip _ _ _ c.words_per_row-n.ensures (sides (goal.at.returns c).Else-side_over) tt _ c.if-words-height.false _ (pixel_skip tt _ _ _ c.if-y-height.false (done tt)))
     (ap (λ (k : ℕ). take k (drop (x.y * n) x.words.now)) e
     ∙ ap (λ (k : ℕ). take k (drop (x.y * k) x.words.now)) c.words_per_row-n.ensures)).1
-
-pub words_per_row-n-requires : goal.words_per_row-n-requires
-words_per_row-n-requires c = (sides (goal.at.words_per_row-n-requires c).Else-side_over).0

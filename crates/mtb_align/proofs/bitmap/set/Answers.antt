@@ -1,63 +1,53 @@
-use mathlib.Core.Path.{sym, ap, ◌∙◌}
+use mathlib.Core.Path.{◌≡◌, sym, ap, ◌∙◌}
 use Prim.Native.Nat.{ℕ, ◌+◌, ◌*◌, ◌/◌, ◌%◌, ◌≤◌, ◌<◌}
 use native.Mathlib.Omega.{arith}
-use lib.ListN.{get_or, set}
+use lib.ListN.{length, get_or, set}
 use Rattle.definitions.specs.Bitmap.{with_bit}
-use Rattle.definitions.specs.Refusals.{pixel_checks}
+use Rattle.definitions.specs.Refusals.{pixel_checks, answer}
 use Rattle.definitions.specs.Sum.{bit}
-use Rattle.laws.specs.bitmaps.Bitmaps.{word_inside, with_one}
-use Rattle.laws.specs.checks.Checks.{sides_within, sides_stop, refuses, accepts}
-use Rattle.mtb_align.proofs.Pixels.{bitmap_fits, inside, long_stop, column_stop, row_stop, pixel_taken}
-use Rattle.mtb_align.proofs.bitmap.set.Goals.{Else-side_over, Else-y-height}
+use Rattle.laws.specs.bitmaps.Bitmaps.{with_one}
+use Rattle.laws.specs.checks.Checks.{after_accepted, after_refused}
+use Rattle.mtb_align.specs.Answers.{refusal}
+use Rattle.mtb_align.proofs.Pixels.{word_of_pixel}
+use Rattle.mtb_align.proofs.bitmap.set.Goals.{After-words_per_row-n}
 use Rattle.mtb_align.proofs.bitmap.set.Goals as goal
 
--- past the first check
-sides : (c : Else-side_over) → let x = c.args in (x.width ≤ 8192) × (x.height ≤ 8192)
-sides c = sides_within _ _ (sym c.side_over.ensures ∙ c.if-side_over.false)
+pub returns-in_err-pixel_fits-clause-words : goal.returns-in_err-pixel_fits-clause-words
+returns-in_err-pixel_fits-clause-words c =
+    let x = c.args in
+    let l = pixel_checks x.width x.height (length x.words.now) x.x x.y in
+    let p : refusal c.in_err-pixel_fits.field-0.0 ≡ answer l (tt {0}) = c.in_err-pixel_fits.ensures in
+    sym (after_refused (tt {0}) l _ _ (sym p))
 
 -- the word that is read and written
-at-inside : (c : Else-y-height) →
+touched : (c : After-words_per_row-n) →
     let x = c.args in
-    (x.y * c.words_per_row-n.result + x.x / 64 < x.height * c.words_per_row-n.result) × (x.height * c.words_per_row-n.result ≤ 1048576)
-at-inside c =
-    inside _ _ _ c.words_per_row-n.ensures (sides_within _ _ (sym c.side_over.ensures ∙ c.if-side_over.false)) _ _ (word_inside _ _ c.if-x-width.false) c.if-y-height.false
+    (x.y * c.words_per_row-n.result + x.x / 64 < length x.words.now) × (length x.words.now ≤ 1048576)
+touched c = word_of_pixel _ _ _ _ _ _ c.words_per_row-n.ensures c.in_ok-pixel_fits.ensures
 
-pub returns-then-side_over : goal.returns-then-side_over
-unfolding pixel_checks
-returns-then-side_over c = let r = refuses _ _ _ (sides_stop tt _ _ _ (sym c.side_over.ensures ∙ c.if-side_over.true)) in record { answer = r.0; words = r.1 }
+pub overflow_mul-at : goal.overflow_mul-at
+overflow_mul-at c = omega (arith, touched (goal.at.overflow_mul-at c).After-words_per_row-n)
 
-pub overflow_mul-height : goal.overflow_mul-height
-overflow_mul-height c = omega (arith, bitmap_fits _ _ _ c.words_per_row-n.ensures (sides (goal.at.overflow_mul-height c).Else-side_over))
+pub overflow_add-at : goal.overflow_add-at
+overflow_add-at c = omega (arith, touched (goal.at.overflow_add-at c).After-words_per_row-n)
 
-pub returns-then-words-height : goal.returns-then-words-height
-unfolding pixel_checks
-returns-then-words-height c =
-    let r = refuses _ _ _ (long_stop _ _ _ c.words_per_row-n.ensures (sides (goal.at.returns-then-words-height c).Else-side_over) tt _ _ c.if-words-height.true) in record { answer = r.0; words = r.1 }
-
-pub returns-then-x-width : goal.returns-then-x-width
-returns-then-x-width c =
-    let r = refuses _ _ _ (column_stop _ _ _ c.words_per_row-n.ensures
-    (sides (goal.at.returns-then-x-width c).Else-side_over) tt _ c.if-words-height.false _ _ c.if-x-width.true) in record { answer = r.0; words = r.1 }
-
-pub returns-then-y-height : goal.returns-then-y-height
-returns-then-y-height c =
-    let r = refuses _ _ _ (row_stop _ _ _ c.words_per_row-n.ensures
-    (sides (goal.at.returns-then-y-height c).Else-side_over) tt _ c.if-words-height.false _ _ c.if-x-width.false c.if-y-height.true) in record { answer = r.0; words = r.1 }
-
-pub bounds-words-at-2 : goal.bounds-words-at-2
-bounds-words-at-2 c = omega (arith, at-inside (goal.at.bounds-words-at-2 c).Else-y-height, c.if-words-height.false)
-
-pub returns : goal.returns
-unfolding with_bit
-returns c =
-    let x = c.args in
-    let words = x.words.now in
-    let r = accepts _ _ _ (pixel_taken _ _ _ c.words_per_row-n.ensures (sides (goal.at.returns c).Else-side_over) tt _ c.if-words-height.false _ _ c.if-x-width.false c.if-y-height.false)
-    (ap (set words (x.y * c.words_per_row-n.result + x.x / 64)) c.with_bit.ensures
-    ∙ ap (λ (n : ℕ). set words (x.y * n + x.x / 64) (with_one (get_or words (x.y * n + x.x / 64) 0) (x.x % 64) (bit x.value))) c.words_per_row-n.ensures) in record { answer = r.0; words = r.1 }
-
-pub words_per_row-n-requires : goal.words_per_row-n-requires
-words_per_row-n-requires c = (sides (goal.at.words_per_row-n-requires c).Else-side_over).0
+pub offset_bounds-words-at : goal.offset_bounds-words-at
+offset_bounds-words-at c = omega (arith, touched (goal.at.offset_bounds-words-at c).After-words_per_row-n)
 
 pub bounds-words-at : goal.bounds-words-at
-bounds-words-at c = omega (arith, at-inside (goal.at.bounds-words-at c).Else-y-height, c.if-words-height.false)
+bounds-words-at c = (touched (goal.at.bounds-words-at c).After-words_per_row-n).0
+
+pub offset_bounds-words-at-2 : goal.offset_bounds-words-at-2
+offset_bounds-words-at-2 c = omega (arith, touched (goal.at.offset_bounds-words-at-2 c).After-words_per_row-n)
+
+pub bounds-words-at-2 : goal.bounds-words-at-2
+bounds-words-at-2 c = (touched (goal.at.bounds-words-at-2 c).After-words_per_row-n).0
+
+pub returns-clause-words : goal.returns-clause-words
+unfolding with_bit
+returns-clause-words c =
+    let x = c.args in
+    let words = x.words.now in
+    ap (set words (x.y * c.words_per_row-n.result + x.x / 64)) c.with_bit.ensures
+    ∙ ap (λ (n : ℕ). set words (x.y * n + x.x / 64) (with_one (get_or words (x.y * n + x.x / 64) 0) (x.x % 64) (bit x.value))) c.words_per_row-n.ensures
+    ∙ sym (after_accepted (tt {0}) _ _ _ (sym c.in_ok-pixel_fits.ensures))

@@ -1,4 +1,4 @@
-use mathlib.Core.Path.{◌≡◌, refl, sym, ◌∙◌}
+use mathlib.Core.Path.{◌≡◌, sym, ◌∙◌}
 use Prim.Native.Nat.{◌<◌, ◌≤◌}
 use native.Mathlib.Omega.{arith}
 use lib.ListN.{length}
@@ -22,12 +22,6 @@ among c =
     let k : c.walked-k.result < n = omega (arith, frame.among, c.walked-k.ensures) in
     (omega (arith, c.neighbour_of-neighbour.ensures, neighbour_among r c.walked-k.result n c.requires.0 k), k, c.requires.1, c.requires.2)
 
-pub loop-i-init : goal.loop-i-init
-loop-i-init c = refl
-
-pub walked-k-requires : goal.walked-k-requires
-walked-k-requires c = let p = c.requires in (p.0, omega arith)
-
 pub mismatch-requires : goal.mismatch-requires
 mismatch-requires c = let a = among (goal.at.mismatch-requires c).After-neighbour_of-neighbour in (a.0, a.1, a.2)
 
@@ -41,12 +35,6 @@ returns-then-sizes_differ c =
     (omega (arith, c.loop-i-test.true, walk_length r (length ws) c.requires.0))
     (pair_is ws hs r c.walked-k.ensures c.neighbour_of-neighbour.ensures)
     (sym c.sizes_differ.ensures ∙ c.if-sizes_differ.true)
-
-pub overflow_step-i : goal.overflow_step-i
-overflow_step-i c = omega (arith, c.loop-i-test.true)
-
-pub loop-i-smaller : goal.loop-i-smaller
-loop-i-smaller c = omega (arith, c.loop-i-test.true)
 
 pub loop-i-preserved : goal.loop-i-preserved
 loop-i-preserved c =

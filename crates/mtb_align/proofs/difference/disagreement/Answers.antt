@@ -59,16 +59,21 @@ returns-then-reference_exclusion-words c =
 
 pub returns-then-target_threshold-words : goal.returns-then-target_threshold-words
 returns-then-target_threshold-words c =
-    third_long _ _ _ _ _ _ _ _ _ (sized (goal.at.returns-then-target_threshold-words c).After-words_per_row) c.if-reference_threshold-words.false c.if-reference_exclusion-words.false c.if-target_threshold-words.true
+    third_long _ _ _ _ _ _ _ _ _ (sized (goal.at.returns-then-target_threshold-words c).After-words_per_row)
+    c.if-reference_threshold-words.false c.if-reference_exclusion-words.false c.if-target_threshold-words.true
 
 pub returns-then-target_exclusion-words : goal.returns-then-target_exclusion-words
 returns-then-target_exclusion-words c =
-    fourth_long _ _ _ _ _ _ _ _ _ (sized (goal.at.returns-then-target_exclusion-words c).After-words_per_row) c.if-reference_threshold-words.false c.if-reference_exclusion-words.false c.if-target_threshold-words.false c.if-target_exclusion-words.true
+    fourth_long _ _ _ _ _ _ _ _ _ (sized (goal.at.returns-then-target_exclusion-words c).After-words_per_row)
+    c.if-reference_threshold-words.false c.if-reference_exclusion-words.false c.if-target_threshold-words.false c.if-target_exclusion-words.true
+
+pub invariant_of-sides : goal.invariant_of-sides
+invariant_of-sides c = let s = (sized (goal.at.invariant_of-sides c).After-words_per_row).sides in record { wide = s.0; high = s.1 }
 
 pub padded-requires : goal.padded-requires
 padded-requires c =
     let s = sized (goal.at.padded-requires c).After-words_per_row in
-    (s.sides.0, s.sides.1, long_as (long (goal.at.padded-requires c).Else-target_exclusion-words) s.words_are)
+    long_as (long (goal.at.padded-requires c).Else-target_exclusion-words) s.words_are
 
 pub returns-then-padded : goal.returns-then-padded
 returns-then-padded c =
@@ -78,12 +83,9 @@ returns-then-padded c =
 pub count-requires : goal.count-requires
 count-requires c =
     let s = sized (goal.at.count-requires c).After-words_per_row in
-    record { width_bound = s.sides; bitmap = bitmaps _ _ _ _ _ _ _ _ s (long (goal.at.count-requires c).Else-target_exclusion-words) (ltb-false _ _ (sym c.padded.ensures ∙ c.if-padded.false)) }
+    bitmaps _ _ _ _ _ _ _ _ s (long (goal.at.count-requires c).Else-target_exclusion-words) (ltb-false _ _ (sym c.padded.ensures ∙ c.if-padded.false))
 
 pub returns : goal.returns
 returns c =
     all_right _ _ _ _ _ _ _ _ _ (sized (goal.at.returns c).After-words_per_row) (long (goal.at.returns c).Else-target_exclusion-words)
     (ltb-false _ _ (sym c.padded.ensures ∙ c.if-padded.false)) c.count.ensures
-
-pub words_per_row-requires : goal.words_per_row-requires
-words_per_row-requires c = (passed _ _ c.side_over.ensures c.if-side_over.false).0

@@ -1,17 +1,11 @@
-use mathlib.Core.Path.{refl, ap, ◌∙◌}
-use native.Mathlib.Omega.{arith}
-use lib.Seq.{sets}
-use Rattle.laws.specs.general.Lists.{build_const}
-use Rattle.laws.specs.general.Writes.{stored_none, stored_more, stored_all}
+use Rattle.std.proofs.Common.{◌≡◌, ap, ◌∙◌, ℕ, ◌+◌, ◌-◌, length, length-drop, replicate, take, drop, arith}
+use Rattle.std.proofs.lemmas.List.{length-take, length-replicate}
+use Rattle.mtb_align.proofs.Runs.{part_stored}
 use Rattle.mtb_align.proofs.geometry.clear_run.Goals as goal
-
-pub loop-k-init : goal.loop-k-init
-loop-k-init c = (omega arith, stored_none _ _ _)
-
-pub loop-k-preserved : goal.loop-k-preserved
-loop-k-preserved c = (omega arith, stored_more c.loop-k.invariant.1 refl)
 
 pub returns : goal.returns
 returns c =
     let a = c.args in
-    stored_all c.loop-k.invariant.1 (omega arith) ∙ ap (sets a.out.now a.at) (build_const a.n 0)
+    let n : length (take (a.at + a.n - a.at) (drop a.at a.out.now)) ≡ a.n =
+    omega (arith, length-take (a.at + a.n - a.at) (drop a.at a.out.now), length-drop a.at a.out.now, c.requires) in
+    part_stored a.out.now (replicate a.n 0) a.at a.n (length-replicate a.n 0) c.requires (c.fill.ensures.after (λ y p. p) ∙ ap (λ (k : ℕ). replicate k 0) n)

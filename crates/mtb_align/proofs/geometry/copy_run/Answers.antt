@@ -1,10 +1,9 @@
-use mathlib.Core.Path.{refl}
-use native.Mathlib.Omega.{arith}
-use Rattle.laws.specs.general.Writes.{stored_none, stored_more}
+use Rattle.std.proofs.Common.{◌∙◌}
+use Rattle.laws.specs.general.Lists.{build_length}
+use Rattle.mtb_align.proofs.Runs.{part_stored, part_is}
 use Rattle.mtb_align.proofs.geometry.copy_run.Goals as goal
 
-pub loop-k-init : goal.loop-k-init
-loop-k-init c = (omega arith, stored_none _ _ _)
-
-pub loop-k-preserved : goal.loop-k-preserved
-loop-k-preserved c = (omega arith, stored_more c.loop-k.invariant.1 refl)
+pub returns : goal.returns
+returns c =
+    let a = c.args in
+    part_stored a.out.now _ a.at a.n (build_length a.n _) c.requires.1 (c.copy_from_slice.ensures.after ∙ part_is a.samples.now a.from a.n 0 c.requires.0)

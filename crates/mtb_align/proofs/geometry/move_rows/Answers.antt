@@ -18,7 +18,7 @@ use Rattle.laws.specs.images.Runs.{run_sum_lem, moved_row, row_outside, row_insi
 use Rattle.laws.specs.images.Sizes as sizes
 use Rattle.laws.specs.general.Writes.{rows_none, rows_more, sets_whole}
 use Rattle.mtb_align.specs.Answers.{shift_in}
-use Rattle.mtb_align.proofs.geometry.move_rows.Goals.{In-Inside-source}
+use Rattle.mtb_align.proofs.geometry.move_rows.Goals.{In-Some-source}
 use Rattle.mtb_align.proofs.geometry.move_rows.Goals as goal
 
 -- one row more
@@ -51,43 +51,45 @@ found y h z f e = sym (ap (λ (x : ℤ). source y x h) (to_z-of_z f)) ∙ sym e
 
 -- ---- row y, where it has a source
 
-module _ (c : In-Inside-source) where
-  columns : Covering c.args.width c.args.shift.x c.first_covered-before.result c.in-Inside.first
+module _ (c : In-Some-source) where
+  columns : Covering c.args.frame.now.width c.args.shift.x c.first_covered-before.result c.in-Some.first
   columns =
-      let f : SFits w32 c.args.shift.x = search rules in
-      covering _ _ _ f c.first_covered-before.ensures c.in-Inside.ensures
+      let g : SFits w32 c.args.shift.x = search rules in
+      covering _ _ _ g c.first_covered-before.ensures c.in-Some.ensures
 
-  its_source : source c.loop-y.y c.args.shift.y c.args.height ≡ inside c.in-Inside-source.row
+  its_source : source c.loop-y.y c.args.shift.y c.args.frame.now.height ≡ inside c.in-Some-source.row
   its_source =
-      let f : SFits w32 c.args.shift.y = search rules in
-      found c.loop-y.y c.args.height c.args.shift.y f c.in-Inside-source.ensures
+      let g : SFits w32 c.args.shift.y = search rules in
+      found c.loop-y.y c.args.frame.now.height c.args.shift.y g c.in-Some-source.ensures
 
   -- the frame is small, row y lies in it, and so does the row that it reads from
-  room : (c.args.width * c.args.height ≤ 67108864)
-      × (c.loop-y.y * c.args.width + c.args.width ≤ c.args.width * c.args.height)
-      × (c.in-Inside-source.row * c.args.width + c.args.width ≤ c.args.width * c.args.height)
-      × (c.first_covered-before.result + (c.args.width - c.first_covered-before.result - c.in-Inside.first) + c.in-Inside.first ≡ c.args.width)
+  room : (c.args.frame.now.width * c.args.frame.now.height ≤ 67108864)
+      × (c.loop-y.y * c.args.frame.now.width + c.args.frame.now.width ≤ c.args.frame.now.width * c.args.frame.now.height)
+      × (c.in-Some-source.row * c.args.frame.now.width + c.args.frame.now.width ≤ c.args.frame.now.width * c.args.frame.now.height)
+      × (c.first_covered-before.result + (c.args.frame.now.width - c.first_covered-before.result - c.in-Some.first) + c.in-Some.first ≡ c.args.frame.now.width)
   room =
-      let a = c.args in (
-        sizes.area a.width a.height c.requires.0 c.requires.1,
-        row_in a.width a.height c.loop-y.y c.loop-y-test.true,
-        row_in a.width a.height c.in-Inside-source.row (inside_lt c.loop-y.y a.shift.y a.height c.in-Inside-source.row its_source),
+      let a = c.args in
+      let f = a.frame.now in (
+        sizes.area f.width f.height f.wide f.high,
+        row_in f.width f.height c.loop-y.y c.loop-y-test.true,
+        row_in f.width f.height c.in-Some-source.row (inside_lt c.loop-y.y a.shift.y f.height c.in-Some-source.row its_source),
         run_sum_lem columns,
       )
 
 pub returns-in_default : goal.returns-in_default
 returns-in_default c =
     let a = c.args in
-    let f : SFits w32 a.shift.x = search rules in
-    let zeros = replicate {A = ℕ} (a.width * a.height) 0 in
+    let f = a.frame.now in
+    let g : SFits w32 a.shift.x = search rules in
+    let zeros = replicate {A = ℕ} (f.width * f.height) 0 in
     c.clear_run.ensures
-    ∙ sets_whole a.moved.now zeros (length-replicate (a.width * a.height) 0 ∙ sym c.requires.3)
-    ∙ sym (moved_off a.width a.height a.samples.now (shift_in a.shift) (uncovered _ _ _ f c.first_covered-before.ensures c.in_default.ensures))
+    ∙ sets_whole a.moved.now zeros (length-replicate (f.width * f.height) 0 ∙ sym c.requires)
+    ∙ sym (moved_off f.width f.height f.samples.now (shift_in a.shift) (uncovered _ _ _ g c.first_covered-before.ensures c.in_default.ensures))
 
 pub overflow_sub-n-2 : goal.overflow_sub-n-2
 overflow_sub-n-2 c =
-    let f : SFits w32 c.args.shift.x = search rules in
-    omega (arith, run_sum_lem (covering _ _ _ f c.first_covered-before.ensures c.in-Inside.ensures))
+    let g : SFits w32 c.args.shift.x = search rules in
+    omega (arith, run_sum_lem (covering _ _ _ g c.first_covered-before.ensures c.in-Some.ensures))
 
 pub loop-y-init : goal.loop-y-init
 loop-y-init c = (omega arith, refl, rows_none _ 0 _)
@@ -95,37 +97,40 @@ loop-y-init c = (omega arith, refl, rows_none _ 0 _)
 pub loop-y-preserved-in_default-source : goal.loop-y-preserved-in_default-source
 loop-y-preserved-in_default-source c =
     let a = c.args in
+    let f = a.frame.now in
     let s = shift_in a.shift in
-    let f : SFits w32 a.shift.y = search rules in
-    let e = row_outside a.width a.height a.samples.now s c.loop-y.y (found c.loop-y.y a.height a.shift.y f c.in_default-source.ensures) in
-    let n = next a.width a.height a.samples.now s a.moved.now c.loop-y.y e c.loop-y.invariant.2 c.clear_run-in_default-source.ensures in
+    let g : SFits w32 a.shift.y = search rules in
+    let e = row_outside f.width f.height f.samples.now s c.loop-y.y (found c.loop-y.y f.height a.shift.y g c.in_default-source.ensures) in
+    let n = next f.width f.height f.samples.now s a.moved.now c.loop-y.y e c.loop-y.invariant.2 c.clear_run-in_default-source.ensures in
     (omega arith, n.0, n.1)
 
 pub overflow_mul-row : goal.overflow_mul-row
-overflow_mul-row c = let r = room (goal.at.overflow_mul-row c).In-Inside-source in omega arith
+overflow_mul-row c = let r = room (goal.at.overflow_mul-row c).In-Some-source in omega arith
 
 pub overflow_add-row : goal.overflow_add-row
-overflow_add-row c = let r = room (goal.at.overflow_add-row c).In-Inside-source in omega arith
+overflow_add-row c = let r = room (goal.at.overflow_add-row c).In-Some-source in omega arith
 
 pub move_row-requires : goal.move_row-requires
-move_row-requires c = let r = room (goal.at.move_row-requires c).In-Inside-source in (omega arith, omega arith)
+move_row-requires c = let r = room (goal.at.move_row-requires c).In-Some-source in (omega arith, omega arith)
 
 pub loop-y-preserved : goal.loop-y-preserved
 loop-y-preserved c =
     let a = c.args in
+    let f = a.frame.now in
     let s = shift_in a.shift in
-    let i = (goal.at.loop-y-preserved c).In-Inside-source in
-    let e = row_inside a.width a.height a.samples.now s (columns i) c.loop-y.y c.in-Inside-source.row (its_source i) in
-    let n = next a.width a.height a.samples.now s a.moved.now c.loop-y.y e c.loop-y.invariant.2 c.move_row.ensures in
+    let i = (goal.at.loop-y-preserved c).In-Some-source in
+    let e = row_inside f.width f.height f.samples.now s (columns i) c.loop-y.y c.in-Some-source.row (its_source i) in
+    let n = next f.width f.height f.samples.now s a.moved.now c.loop-y.y e c.loop-y.invariant.2 c.move_row.ensures in
     (omega arith, n.0, n.1)
 
 pub returns : goal.returns
 unfolding shifted
 returns c =
     let a = c.args in
-    let rows = moved_row a.width a.height a.samples.now (shift_in a.shift) in
-    let e : c.loop-y.y ≡ a.height = omega arith in
+    let f = a.frame.now in
+    let rows = moved_row f.width f.height f.samples.now (shift_in a.shift) in
+    let e : c.loop-y.y ≡ f.height = omega arith in
     c.loop-y.invariant.2
     ∙ ap (λ (n : ℕ). sets a.moved.now 0 (joined n rows)) e
-    ∙ sets_whole a.moved.now (joined a.height rows)
-    (joined_length a.height a.width rows (λ j m. build_length a.width _) ∙ omega (arith, mul_comm a.width a.height))
+    ∙ sets_whole a.moved.now (joined f.height rows)
+    (joined_length f.height f.width rows (λ j m. build_length f.width _) ∙ omega (arith, mul_comm f.width f.height))

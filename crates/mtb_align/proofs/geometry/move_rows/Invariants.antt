@@ -9,4 +9,5 @@ use Rattle.mtb_align.specs.Answers.{shift_in}
 use Rattle.mtb_align.proofs.geometry.move_rows.Given as goal
 
 abbrev pub invariant-loop-y : goal.invariant-loop-y
-invariant-loop-y l = (l.y ≤ l.height) × (length l.moved ≡ length l.initial.moved) × (l.moved ≡ sets l.initial.moved 0 (joined l.y (moved_row l.width l.height l.samples (shift_in l.shift))))
+invariant-loop-y l = (l.y ≤ l.frame.height) × (length l.moved ≡ length l.initial.moved)
+    × (l.moved ≡ sets l.initial.moved 0 (joined l.y (moved_row l.frame.width l.frame.height l.frame.samples.now (shift_in l.shift))))

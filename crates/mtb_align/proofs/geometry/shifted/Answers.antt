@@ -26,10 +26,10 @@ returns-then-moved-width c =
     let s = sides_within _ _ (sym c.side_over.ensures ∙ c.if-side_over.false) in
     let r = refuses _ _ _ (sides_skip tt _ _ _ s (length_skip tt _ _ _ c.if-samples-width.false (length_stop tt _ _ _ c.if-moved-width.true))) in record { answer = r.0; moved = r.1 }
 
-pub move_rows-requires : goal.move_rows-requires
-move_rows-requires c =
+pub invariant_of-frame : goal.invariant_of-frame
+invariant_of-frame c =
     let s = sides_within _ _ (sym c.side_over.ensures ∙ c.if-side_over.false) in
-    (s.0, s.1, c.if-samples-width.false, c.if-moved-width.false)
+    record { wide = s.0; high = s.1; whole = c.if-samples-width.false }
 
 pub returns : goal.returns
 unfolding shifted_checks

@@ -31,10 +31,11 @@ returns-then-gray-width c =
     let s = sides_within _ _ (sym c.side_over.ensures ∙ c.if-side_over.false) in
     let r = refuses _ _ _ (sides_skip tt _ _ _ s (length_skip tt _ _ _ c.if-rgb-width.false (length_stop tt _ _ _ c.if-gray-width.true))) in record { answer = r.0; gray = r.1 }
 
+pub invariant_of-sides : goal.invariant_of-sides
+invariant_of-sides c = let s = sides_within _ _ (sym c.side_over.ensures ∙ c.if-side_over.false) in record { wide = s.0; high = s.1 }
+
 pub flatten-requires : goal.flatten-requires
-flatten-requires c =
-    let s = sides_within _ _ (sym c.side_over.ensures ∙ c.if-side_over.false) in
-    (s.0, s.1, c.if-rgb-width.false, c.if-gray-width.false)
+flatten-requires c = (c.if-rgb-width.false, c.if-gray-width.false)
 
 pub returns : goal.returns
 unfolding from_rgb_checks

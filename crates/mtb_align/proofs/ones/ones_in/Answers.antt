@@ -9,29 +9,20 @@ use Rattle.mtb_align.proofs.ones.ones_in.Invariants.{ones_at, fifteen_at}
 use Rattle.mtb_align.proofs.ones.ones_in.Goals as goal
 
 pub loop-at-init : goal.loop-at-init
-loop-at-init c = (omega arith, sym (sum_none _), omega arith)
+loop-at-init c = (sym (sum_none _), omega arith)
 
 pub loop-at-preserved : goal.loop-at-preserved
 loop-at-preserved c =
     let words = c.args.words.now in
-    (omega arith, sum_step c.loop-at.at (fifteen_at words (length words / 15)) c.loop-at.invariant.1 c.ones_of_fifteen-set.ensures.0, omega arith)
+    (sum_step c.loop-at.at (fifteen_at words (length words / 15)) c.loop-at.invariant.0 c.ones_of_fifteen-set.ensures.0, omega arith)
 
 pub loop-k-init : goal.loop-k-init
 loop-k-init c =
     let words = c.args.words.now in
     let step = length words / 15 in
     let e : c.loop-at.at ≡ step = omega arith in
-    (omega arith, c.loop-at.invariant.1 ∙ ap (λ (k : ℕ). sum k (fifteen_at words step)) e ∙ parts step (ones_at words), omega arith)
+    (c.loop-at.invariant.0 ∙ ap (λ (k : ℕ). sum k (fifteen_at words step)) e ∙ parts step (ones_at words), omega arith)
 
 pub loop-k-preserved : goal.loop-k-preserved
 loop-k-preserved c =
-    (omega arith, sum_step c.loop-k.k (ones_at c.args.words.now) c.loop-k.invariant.1 c.ones_of-set.ensures.0, omega arith)
-
-pub returns : goal.returns
-returns c =
-    let words = c.args.words.now in
-    let e : c.loop-k.k ≡ length words = omega arith in
-    c.loop-k.invariant.1 ∙ ap (λ (k : ℕ). sum k (ones_at words)) e
-
-pub ones_of_fifteen-set-requires : goal.ones_of_fifteen-set-requires
-ones_of_fifteen-set-requires c = (omega arith, omega arith)
+    (sum_step c.loop-k.k (ones_at c.args.words.now) c.loop-k.invariant.0 c.ones_of-set.ensures.0, omega arith)

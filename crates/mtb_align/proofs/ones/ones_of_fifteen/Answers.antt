@@ -34,9 +34,3 @@ returns c =
     let words = x.words.now in
     let e = fifteen_set words x.at x.step _ _ _ _ (λ i. added (goal.at.returns c).After-ones_of-4 i) in
     (omega (arith, e, c.ones_of.ensures.0, c.ones_of-2.ensures.0, c.ones_of-3.ensures.0, c.ones_of-4.ensures.0), omega arith)
-
-pub add_apart-a-requires : goal.add_apart-a-requires
-add_apart-a-requires c = (omega arith, omega arith)
-
-pub add_apart-b-requires : goal.add_apart-b-requires
-add_apart-b-requires c = (omega arith, omega arith)

@@ -1,11 +1,11 @@
--- The loop has counted the first rows.
-use Prim.Native.Nat.{◌-◌}
-use Rattle.laws.specs.bitmaps.Joints.{spanned}
-use Rattle.mtb_align.proofs.Counting.{Ruling}
+-- The loop has counted the first rows, seven at a time.
+use mathlib.Core.Path.{◌≡◌}
+use Prim.Native.Nat.{◌+◌, ◌*◌}
+use Rattle.laws.specs.bitmaps.Joints.{Counted}
+use Rattle.laws.specs.bitmaps.Joints.{lines_sum}
 use Rattle.mtb_align.proofs.rectangles.by_sevens.Given as goal
 
-abbrev pub invariant-loop-row : goal.invariant-loop-row
-invariant-loop-row l = Ruling (spanned l.bit) l.rt l.re l.st l.se l.i l.j l.n 1 l.rows l.columns 524288 l.compared l.disagreeing l.at l.from l.row
-
-abbrev pub decreases-loop-row : goal.decreases-loop-row
-decreases-loop-row l = l.rows - l.row
+abbrev pub invariant-loop : goal.invariant-loop
+invariant-loop g l =
+    (l.at ≡ l.i + l.counter * 7 * l.n) × (l.from ≡ l.j + l.counter * 7 * l.n)
+    × Counted (lines_sum (g.V.View.shown l.view) l.rt l.re l.st l.se l.i l.j l.n 1 (l.counter * 7) l.columns) (l.counter * 7 * 524288) l.compared l.disagreeing

@@ -1,11 +1,11 @@
--- The loop has counted the runs before line.
-use Prim.Native.Nat.{◌-◌}
-use Rattle.laws.specs.bitmaps.Joints.{spanned}
-use Rattle.mtb_align.proofs.Counting.{Ruling}
+-- The loop has counted the first runs.
+use mathlib.Core.Path.{◌≡◌}
+use Prim.Native.Nat.{◌+◌, ◌*◌}
+use Rattle.laws.specs.bitmaps.Joints.{Counted}
+use Rattle.laws.specs.bitmaps.Joints.{lines_sum}
 use Rattle.mtb_align.proofs.rectangles.grid.Given as goal
 
-abbrev pub invariant-loop-line : goal.invariant-loop-line
-invariant-loop-line l = Ruling (spanned l.bit) l.rt l.re l.st l.se l.i l.j l.apart l.step l.lines l.len 524288 l.compared l.disagreeing l.at l.from l.line
-
-abbrev pub decreases-loop-line : goal.decreases-loop-line
-decreases-loop-line l = l.lines - l.line
+abbrev pub invariant-loop : goal.invariant-loop
+invariant-loop g l =
+    (l.at ≡ l.i + l.counter * l.apart) × (l.from ≡ l.j + l.counter * l.apart)
+    × Counted (lines_sum (g.V.View.shown l.view) l.rt l.re l.st l.se l.i l.j l.apart l.step l.counter l.len) (l.counter * 524288) l.compared l.disagreeing

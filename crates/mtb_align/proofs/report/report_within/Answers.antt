@@ -28,18 +28,13 @@ found a q old space room e p =
       bytes = keeps_front p;
     }
 
-pub survey_frames-needed-requires-clause-placed : goal.survey_frames-needed-requires-clause-placed
-survey_frames-needed-requires-clause-placed c =
+pub invariant_of-walked : goal.invariant_of-walked
+invariant_of-walked c =
     let a = c.args in
-    let room = c.requires.count_in_bounds in
-    (placed_of (stack_in a.frames a.percentiles.now a.samples.now) a.placed.now room.0 c.walk.ensures.shifts_after, room.1)
+    record { placed = placed_of (stack_in a.asked.now.stack) a.placed.now c.requires.count_in_bounds.0 c.walk.ensures.shifts_after }
 
-pub write_report-requires-clause-placed : goal.write_report-requires-clause-placed
-write_report-requires-clause-placed c =
+pub write_report-requires-clause-found : goal.write_report-requires-clause-found
+write_report-requires-clause-found c =
     let a = c.args in
-    let stack = stack_in a.frames a.percentiles.now a.samples.now in
-    let room = c.requires.count_in_bounds in
-    let e = c.survey_frames-needed.ensures in (
-      placed_of stack a.placed.now room.0 c.walk.ensures.shifts_after,
-      found stack (terms_in a.terms) a.judged.now a.kept.now room.1 e.judged_after e.kept,
-    )
+    let e = c.survey_frames-needed.ensures in
+    found (stack_in a.asked.now.stack) (terms_in a.asked.now.terms) a.judged.now a.kept.now c.requires.count_in_bounds.1 e.judged_after e.kept

@@ -30,22 +30,21 @@ space_front a q old h e =
 pub overflow_mul-needed : goal.overflow_mul-needed
 unfolding records
 overflow_mul-needed c =
-    let a = stack_in c.args.frames c.args.percentiles.now c.args.samples.now in
-    let q = terms_in c.args.terms in
-    let p = c.requires.framed in
+    let a = stack_in c.args.walked.now.asked.stack in
+    let q = terms_in c.args.walked.now.asked.terms in
     let few : c.args.needed ≤ 266256 =
-    omega (arith, c.requires.placed.1.number, records_number a q, frames_few a q c.args.frames.count p.1 p.0.small.frames) in
+    omega (arith, c.requires.found.number, records_number a q, frames_few a q (length c.args.walked.now.asked.stack.percentiles.now) c.args.walked.now.asked.near c.args.walked.now.asked.stack.few) in
     record { fits = omega (arith, few) }
 
 pub returns-then-records-needed-clause-written : goal.returns-then-records-needed-clause-written
 returns-then-records-needed-clause-written c =
-    let a = stack_in c.args.frames c.args.percentiles.now c.args.samples.now in
-    let q = terms_in c.args.terms in
+    let a = stack_in c.args.walked.now.asked.stack in
+    let q = terms_in c.args.walked.now.asked.terms in
     let needed = records_needed a q in
     let space = length c.args.records.now in
     let checks = report_checks [] needed space in
     let r = reported_of a q in
-    let number = c.requires.placed.1.number in
+    let number = c.requires.found.number in
     let e : answer checks r ≡ refused 10 (needed ∷ []) =
     refused_for_space r [] needed space (sym (done r)) (omega (arith, c.if-records-needed.true, number)) in
     record {
@@ -58,18 +57,18 @@ returns-then-records-needed-clause-written c =
 pub returns-clause-written : goal.returns-clause-written
 unfolding report_crop
 returns-clause-written c =
-    let f = c.args.frames in
-    let a = stack_in f c.args.percentiles.now c.args.samples.now in
-    let q = terms_in c.args.terms in
+    let f = c.args.walked.now.asked.stack in
+    let a = stack_in f in
+    let q = terms_in c.args.walked.now.asked.terms in
     let needed = records_needed a q in
     let space = length c.args.records.now in
     let checks = report_checks [] needed space in
     let r = reported_of a q in
-    let number = c.requires.placed.1.number in
+    let number = c.requires.found.number in
     let fits : 20 * needed ≤ space = omega (arith, c.if-records-needed.false, number) in
     let e : answer checks r ≡ accepted r = accepted_for_space r [] needed space (sym (done r)) fits in
     let moved =
-    c.copy_shifts.ensures ∙ ap (λ (m : ℕ). take m c.args.placed.now) c.requires.shifts_len.0 ∙ c.requires.placed.0.front in
+    c.copy_from_slice.ensures.after ∙ ap (λ (m : ℕ). take m c.args.walked.now.shifts.now) c.requires.shifts_len.0 ∙ c.args.walked.now.placed.front in
     let crop =
     c.crop_of-crop.ensures
     ∙ ap (λ (l : List ℤ). common_crop (shifts_of l) f.width f.height) moved

@@ -7,6 +7,6 @@ use Rattle.mtb_align.proofs.rivals.survey_around.Goals as goal
 
 pub overflow_add-question : goal.overflow_add-question
 overflow_add-question c =
-    let few = counted_few c.requires.0 _ _ c.counts_at-counts.ensures in
+    let few = counted_few c.args.packed.now _ _ c.counts_at-counts.ensures in
     let margin : Fits w32 c.args.terms.margin = search rules in
     record { fits = omega (arith, few.0, margin.fits) }

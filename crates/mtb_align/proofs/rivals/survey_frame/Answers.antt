@@ -3,6 +3,7 @@ use mathlib.Core.Bool.{cond}
 use mathlib.Core.List.{List}
 use Prim.Native.Nat.{ℕ, ◌<◌, ◌+◌, ◌-◌, ◌*◌, ◌≤◌}
 use native.Mathlib.Omega.{arith}
+use denote.Enum.Declared.{tag_of}
 use lib.Dec.{ltb, eqb}
 use lib.ListN.{length, take, set}
 use Rattle.definitions.specs.Bitmap.{bitmap_words}
@@ -16,11 +17,15 @@ use Rattle.laws.specs.report.Kept.{records_of, records_of_length, shifts_none, k
 use Rattle.laws.specs.report.Records.{rivals_none, rivals_survey}
 use Rattle.laws.specs.report.Verdicts.{verdict_reference, verdict_other}
 use Rattle.mtb_align.specs.Answers.{shift_in}
-use Rattle.mtb_align.specs.Search.{TwoPairs, pair_counts}
+use Rattle.mtb_align.specs.Layout.{pair_counts}
 use Rattle.mtb_align.specs.Stack.{stack_in}
-use Rattle.mtb_align.specs.Survey.{terms_in, question_around}
+use Rattle.mtb_align.specs.Survey.{terms_in, question_around, verdict_in}
+use Rattle.mtb_align.specs.contracts.rivals.Verdict.{the_type}
+use Rattle.mtb_align.specs.declared.rivals.Verdict.{Verdict}
+use Rattle.mtb_align.specs.declared.rivals.Verdict.TheVariants.{Reference, Weak, Alone, Contested}
+use Rattle.mtb_align.proofs.Four.{TwoPairs}
 use Rattle.mtb_align.proofs.Surveyed.{two_frames, packed_pairs, packed_counts, packed_free, step_near}
-use Rattle.mtb_align.proofs.Taken.{maps_fit}
+use Rattle.mtb_align.proofs.Taken.{small, maps_fit}
 use Rattle.mtb_align.proofs.rivals.survey_frame.Goals.{After-words_per_row}
 use Rattle.mtb_align.proofs.rivals.survey_frame.Goals as goal
 
@@ -28,6 +33,13 @@ use Rattle.mtb_align.proofs.rivals.survey_frame.Goals as goal
 named : (a : Stack) (q : Terms) (k : ℕ) → records_of (frame_counts a k) k (rivals a q k) ≡ frame_records a q k
 unfolding frame_records records_of
 named a q k = refl
+
+-- a verdict is stored as its byte
+stored_as : (v : Verdict) → tag_of the_type v ≡ verdict_in v
+stored_as Reference = refl
+stored_as Weak = refl
+stored_as Alone = refl
+stored_as Contested = refl
 
 -- what is judged by its two numbers is the verdict on it
 judged_as : (a : Stack) (q : Terms) (k : ℕ) → (k ≡ a.reference → ⊥) → {compared number v : ℕ} → compared ≡ (frame_counts a k (step_of a k)).compared
@@ -41,46 +53,46 @@ found q f t = survey f (question_around f t q)
 
 -- ---- the reference
 
-pub returns-then-k-frames-clause-kept : goal.returns-then-k-frames-clause-kept
-returns-then-k-frames-clause-kept c =
-    let a = stack_in c.args.frames c.args.percentiles.now c.args.samples.now in
-    let q = terms_in c.args.terms in
+pub returns-then-k-stack-clause-kept : goal.returns-then-k-stack-clause-kept
+returns-then-k-stack-clause-kept c =
+    let a = stack_in c.args.walked.now.asked.stack in
+    let q = terms_in c.args.walked.now.asked.terms in
     let k = c.args.k in
-    keeps_same (named a q k) (shifts_none (frame_counts a k) k (rivals_none a q k c.if-k-frames.true))
+    keeps_same (named a q k) (shifts_none (frame_counts a k) k (rivals_none a q k c.if-k-stack.true))
 
-pub returns-then-k-frames-clause-judged_after : goal.returns-then-k-frames-clause-judged_after
-returns-then-k-frames-clause-judged_after c =
-    let a = stack_in c.args.frames c.args.percentiles.now c.args.samples.now in
-    let q = terms_in c.args.terms in
-    ap (set c.args.judged.now c.args.k) (sym (ap (verdict a q) c.if-k-frames.true ∙ verdict_reference a q))
+pub returns-then-k-stack-clause-judged_after : goal.returns-then-k-stack-clause-judged_after
+returns-then-k-stack-clause-judged_after c =
+    let a = stack_in c.args.walked.now.asked.stack in
+    let q = terms_in c.args.walked.now.asked.terms in
+    ap (set c.args.judged.now c.args.k) (sym (ap (verdict a q) c.if-k-stack.true ∙ verdict_reference a q))
 
 -- ---- another frame, once it and its neighbour are packed
 
 module _ (c : After-words_per_row) where
   abbrev stack : Stack
-  stack = stack_in c.args.frames c.args.percentiles.now c.args.samples.now
+  stack = stack_in c.args.walked.now.asked.stack
 
   abbrev terms : Terms
-  terms = terms_in c.args.terms
+  terms = terms_in c.args.walked.now.asked.terms
 
   abbrev k : ℕ
   k = c.args.k
 
-  abbrev apart : k ≡ c.args.frames.reference → ⊥
-  apart = c.if-k-frames.false
+  abbrev apart : k ≡ c.args.walked.now.asked.stack.reference → ⊥
+  apart = c.if-k-stack.false
 
   abbrev w : ℕ
-  w = c.args.frames.width
+  w = c.args.walked.now.asked.stack.width
 
   abbrev h : ℕ
-  h = c.args.frames.height
+  h = c.args.walked.now.asked.stack.height
 
-  two : 1 < c.args.frames.count
-  two = let p = c.requires.framed in two_frames apart p.0.small.reference p.1
+  two : 1 < length c.args.walked.now.asked.stack.percentiles.now
+  two = two_frames apart c.args.walked.now.asked.stack.inside c.requires.room.1
 
   -- the words of a bitmap
   size : let n = h * c.words_per_row.result in (n ≡ bitmap_words w h) × (n ≤ 1048576)
-  size = let small = c.requires.framed.0.small in words_of_rows w h small.width small.height c.words_per_row.ensures
+  size = words_of_rows w h c.args.walked.now.asked.stack.wide c.args.walked.now.asked.stack.high c.words_per_row.ensures
 
   -- all words, how many of them are handed on, and those
   abbrev words : List ℕ
@@ -102,17 +114,17 @@ module _ (c : After-words_per_row) where
   step_is = c.sight-step.ensures.result_value
 
   pairs : TwoPairs (take end words) w h
-  pairs = packed_pairs c.args.words.now c.requires.framed.0 two k c.sight-step.ensures.words_after end end_is
+  pairs = packed_pairs c.args.walked.now.asked.stack c.args.words.now c.requires.room.0 two k c.sight-step.ensures.words_after end end_is
 
   counts : at ≡ frame_counts stack k
-  counts = packed_counts c.args.words.now c.requires.framed.0 two k c.sight-step.ensures.words_after end end_is
+  counts = packed_counts c.args.walked.now.asked.stack c.args.words.now c.requires.room.0 two k c.sight-step.ensures.words_after end end_is
 
   free : FreeUpTo (stack_words stack) c.args.words.now words
-  free = packed_free c.args.words.now c.requires.framed.0 two k c.sight-step.ensures.words_after
+  free = packed_free c.args.walked.now.asked.stack c.args.words.now c.requires.room.0 two k c.sight-step.ensures.words_after
 
   end_fits : end ≤ length words
   unfolding step_words
-  end_fits = omega (arith, end_is, maps_fit c.requires.framed.0 two, free.long)
+  end_fits = omega (arith, end_is, maps_fit c.args.walked.now.asked.stack c.requires.room.0 two, free.long)
 
   found_is : found terms at step ≡ rivals stack terms k
   unfolding found limit_of
@@ -127,14 +139,27 @@ overflow_mul-end c = record { fits = omega (arith, (size (goal.at.overflow_mul-e
 pub overflow_mul-end-2 : goal.overflow_mul-end-2
 overflow_mul-end-2 c = record { fits = omega (arith, (size (goal.at.overflow_mul-end-2 c).After-words_per_row).1) }
 
-pub slice_bounds-survey_around-end : goal.slice_bounds-survey_around-end
-slice_bounds-survey_around-end c = omega (arith, end_fits (goal.at.slice_bounds-survey_around-end c).After-words_per_row)
+pub slice_bounds-packed-end : goal.slice_bounds-packed-end
+slice_bounds-packed-end c = omega (arith, end_fits (goal.at.slice_bounds-packed-end c).After-words_per_row)
+
+pub invariant_of-packed : goal.invariant_of-packed
+invariant_of-packed c =
+    let q = pairs (goal.at.invariant_of-packed c).After-words_per_row in
+    record {
+      wide = q.wide;
+      high = q.high;
+      long = q.long;
+      reference_threshold = q.reference_threshold;
+      reference_exclusion = q.reference_exclusion;
+      target_threshold = q.target_threshold;
+      target_exclusion = q.target_exclusion;
+    }
 
 pub survey_around-surveyed-requires : goal.survey_around-surveyed-requires
 survey_around-surveyed-requires c =
     let w = (goal.at.survey_around-surveyed-requires c).After-words_per_row in
-    let p = c.requires.framed in
-    (pairs w, step_near (stack w) p.0.small (k w) (step_is w), p.2, omega (arith, p.1, p.0.small.frames), p.3)
+    let p = c.requires.room in
+    (step_near (stack w) (small c.args.walked.now.asked.stack) (k w) (step_is w), c.args.walked.now.asked.near, p.2)
 
 pub returns-clause-kept : goal.returns-clause-kept
 unfolding found
@@ -152,7 +177,7 @@ returns-clause-judged_after c =
     r.ensures.1.ends ∙ ap (λ (m : ℕ). c.args.number + m) (records_of_length (at w) (k w) _) in
     let number : r.result.number - c.args.number ≡ length all = omega (arith, added, ap length (found_is w)) in
     let compared = r.ensures.0 ∙ ap₂ (λ (f : Shift → Counts) (t : Shift). (f t).compared) (counts w) (step_is w) in
-    ap (set c.args.judged.now (k w)) (judged_as (stack w) (terms w) (k w) (apart w) compared number c.verdict_of.ensures)
+    ap (set c.args.judged.now (k w)) (judged_as (stack w) (terms w) (k w) (apart w) compared number (stored_as c.verdict_of.result ∙ c.verdict_of.ensures))
 
 pub returns-clause-free_up_to : goal.returns-clause-free_up_to
 returns-clause-free_up_to c = free (goal.at.returns-clause-free_up_to c).After-words_per_row

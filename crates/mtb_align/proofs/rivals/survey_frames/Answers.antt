@@ -1,4 +1,4 @@
-use mathlib.Core.Path.{◌≡◌, refl, sym, ap, ◌∙◌, subst}
+use mathlib.Core.Path.{◌≡◌, refl, sym, ap, ◌∙◌}
 use Prim.Native.Nat.{ℕ, ◌≤◌}
 use native.Mathlib.Nat.{zero-add}
 use native.Mathlib.Omega.{arith}
@@ -12,7 +12,7 @@ use Rattle.laws.specs.report.Kept.{keeps_same, keeps_joined_none, keeps_joined_m
 use Rattle.laws.specs.search.Free.{free_same}
 use Rattle.laws.specs.report.Surveys.{frames_few}
 use Rattle.laws.specs.general.Writes.{store_none, store_more}
-use Rattle.mtb_align.specs.Stack.{stack_in, Framed}
+use Rattle.mtb_align.specs.Stack.{stack_in}
 use Rattle.mtb_align.specs.Survey.{terms_in}
 use Rattle.mtb_align.proofs.rivals.survey_frames.Goals.{At-loop-k}
 use Rattle.mtb_align.proofs.rivals.survey_frames.Goals as goal
@@ -21,10 +21,10 @@ use Rattle.mtb_align.proofs.rivals.survey_frames.Goals as goal
 
 module _ (c : At-loop-k) where
   abbrev stack : Stack
-  stack = stack_in c.args.frames c.args.percentiles.now c.args.samples.now
+  stack = stack_in c.args.walked.now.asked.stack
 
   abbrev terms : Terms
-  terms = terms_in c.args.terms
+  terms = terms_in c.args.walked.now.asked.terms
 
   judged_long : length c.loop-k.judged ≡ length c.args.judged.now
   judged_long = ap length c.loop-k.invariant.2 ∙ length-sets c.args.judged.now 0 (build c.loop-k.k (verdict stack terms))
@@ -32,22 +32,15 @@ module _ (c : At-loop-k) where
   -- the records so far are few
   few : c.loop-k.number ≤ 300000
   few =
-      let p = c.requires.framed in
       let i = c.loop-k.invariant in
-      omega (arith, frames_few stack terms c.loop-k.k p.1 (omega (arith, i.0, p.0.small.frames)), i.1.ends)
+      omega (arith, frames_few stack terms c.loop-k.k c.args.walked.now.asked.near (omega (arith, i.0, c.args.walked.now.asked.stack.few)), i.1.ends)
 
 pub loop-k-init : goal.loop-k-init
 loop-k-init c = (omega arith, keeps_joined_none _ _, store_none _ _ _, free_same _ _)
 
-pub survey_frame-number-requires : goal.survey_frame-number-requires
-survey_frame-number-requires c =
-    let s = (goal.at.survey_frame-number-requires c).At-loop-k in
-    let p = c.requires.framed in
-    let q = subst (Framed c.args.frames c.args.percentiles.now c.args.samples.now) (sym c.loop-k.invariant.3.long) p.0 in
-    record {
-      framed = (q, c.loop-k-test.true, p.1, few s);
-      placed = (c.requires.placed.0, omega (arith, c.requires.placed.1, judged_long s));
-    }
+pub survey_frame-number-requires-clause-room : goal.survey_frame-number-requires-clause-room
+survey_frame-number-requires-clause-room c =
+    (omega (arith, c.requires.room, c.loop-k.invariant.3.long), c.loop-k-test.true, few (goal.at.survey_frame-number-requires-clause-room c).At-loop-k)
 
 pub loop-k-preserved : goal.loop-k-preserved
 loop-k-preserved c =
@@ -62,14 +55,18 @@ loop-k-preserved c =
       free_then i.3 e.free_up_to,
     )
 
-pub returns : goal.returns
-unfolding records verdicts
-returns c =
-    let s = (goal.at.returns c).At-loop-k in
-    let i = c.loop-k.invariant in
-    let e : c.loop-k.k ≡ c.args.frames.count = omega (arith, i.0, c.loop-k-test.false) in
-    record {
-      kept = keeps_same (ap (λ (n : ℕ). joined n (frame_records (stack s) (terms s))) e) i.1;
-      judged_after = i.2 ∙ ap (λ (n : ℕ). sets c.args.judged.now 0 (build n (verdict (stack s) (terms s)))) e;
-      free_up_to = i.3;
-    }
+-- all are
+ended : (c : At-loop-k) → length c.args.walked.now.asked.stack.percentiles.now ≤ c.loop-k.k → c.loop-k.k ≡ length c.args.walked.now.asked.stack.percentiles.now
+ended c h = omega (arith, c.loop-k.invariant.0, h)
+
+pub returns-clause-kept : goal.returns-clause-kept
+unfolding records
+returns-clause-kept c =
+    let s = (goal.at.returns-clause-kept c).At-loop-k in
+    keeps_same (ap (λ (n : ℕ). joined n (frame_records (stack s) (terms s))) (ended s c.loop-k-test.false)) c.loop-k.invariant.1
+
+pub returns-clause-judged_after : goal.returns-clause-judged_after
+unfolding verdicts
+returns-clause-judged_after c =
+    let s = (goal.at.returns-clause-judged_after c).At-loop-k in
+    c.loop-k.invariant.2 ∙ ap (λ (n : ℕ). sets c.args.judged.now 0 (build n (verdict (stack s) (terms s)))) (ended s c.loop-k-test.false)

@@ -1,7 +1,8 @@
 -- The first k frames are surveyed.
 use mathlib.Core.Path.{◌≡◌}
-use Prim.Native.Nat.{◌-◌, ◌≤◌}
+use Prim.Native.Nat.{◌≤◌}
 use lib.Seq.{sets}
+use lib.ListN.{length}
 use Rattle.definitions.specs.Build.{build, joined}
 use Rattle.definitions.specs.Align.{stack_words}
 use Rattle.definitions.specs.Refusals.{FreeUpTo}
@@ -13,12 +14,9 @@ use Rattle.mtb_align.proofs.rivals.survey_frames.Given as goal
 
 abbrev pub invariant-loop-k : goal.invariant-loop-k
 invariant-loop-k l =
-    let a = stack_in l.frames l.percentiles l.samples in
-    let q = terms_in l.terms in
-    (l.k ≤ l.frames.count)
+    let a = stack_in l.walked.asked.stack in
+    let q = terms_in l.walked.asked.terms in
+    (l.k ≤ length l.walked.asked.stack.percentiles.now)
     × Kept l.initial.space 0 (joined l.k (frame_records a q)) l.space l.number
     × (l.judged ≡ sets l.initial.judged 0 (build l.k (verdict a q)))
     × FreeUpTo (stack_words a) l.initial.words l.words
-
-abbrev pub decreases-loop-k : goal.decreases-loop-k
-decreases-loop-k l = l.frames.count - l.k

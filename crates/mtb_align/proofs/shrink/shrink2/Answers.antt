@@ -37,10 +37,8 @@ returns-then-shrunk-width c =
     let e = sides_skip tt _ _ _ s (length_skip tt _ _ _ c.if-samples-width.false (length_stop tt _ _ _ c.if-shrunk-width.true)) in
     record { answer = e; shrunk = (refuses _ _ _ e).1 }
 
-pub halve-requires : goal.halve-requires
-halve-requires c =
-    let s = within (goal.at.halve-requires c).Else-side_over in
-    (s.0, s.1, c.if-samples-width.false, omega arith)
+pub invariant_of-frame : goal.invariant_of-frame
+invariant_of-frame c = let s = within (goal.at.invariant_of-frame c).Else-side_over in record { wide = s.0; high = s.1; whole = c.if-samples-width.false }
 
 pub returns : goal.returns
 unfolding shrink_checks

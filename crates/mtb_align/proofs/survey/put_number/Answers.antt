@@ -1,22 +1,21 @@
-use mathlib.Core.Path.{◌≡◌}
-use mathlib.Core.List.{List, [], ◌∷◌}
-use Prim.Native.Nat.{ℕ, suc, ◌+◌, ◌/◌, ◌%◌}
+use mathlib.Core.Path.{◌≡◌, sym, ap, ap₂, ◌∙◌}
+use mathlib.Core.List.{List, ◌++◌, append_assoc}
+use Prim.Native.Nat.{ℕ, ◌+◌, ◌-◌, ◌≤◌}
 use native.Mathlib.Omega.{arith}
-use lib.ListN.{set}
-use lib.Seq.{sets}
+use borrow.Rule.Slice.PartMut.{put_mid, Post-is}
+use lib.ListN.{length, take, drop}
+use lib.Seq.{sets, sets-eq}
 use Rattle.definitions.specs.Report.{bytes32}
 use Rattle.mtb_align.proofs.survey.put_number.Goals as goal
 
--- four stores, one after another
-four : (l : List ℕ) (at a b c d : ℕ) {i j k : ℕ} → i ≡ suc at → j ≡ suc (suc at) → k ≡ suc (suc (suc at))
-    → set (set (set (set l at a) i b) j c) k d ≡ sets l at (a ∷ b ∷ c ∷ d ∷ [])
-four l at a b c d p q r = rw (p, q, r)
+-- a copy into a part of a list stores there
+part-copied : (l part : List ℕ) (a e : ℕ) {new : List ℕ} → e ≡ a + length part → e ≤ length l → new ≡ part → put_mid a (e - a) l new ≡ sets l a part
+part-copied l part a e {new} q h c =
+    ap₂ (λ (x y : List ℕ). take a l ++ (x ++ y)) c (Post-is a e l (omega arith) ∙ ap (λ (k : ℕ). drop k l) q)
+    ∙ sym (sets-eq part l a (omega arith) ∙ append_assoc (take a l) part (drop (a + length part) l))
 
 pub returns : goal.returns
 unfolding bytes32
 returns c =
-    let a = c.args in
-    let one : a.at + 1 ≡ suc a.at = omega arith in
-    let two : a.at + 2 ≡ suc (suc a.at) = omega arith in
-    let three : a.at + 3 ≡ suc (suc (suc a.at)) = omega arith in
-    four a.space.now a.at (a.value % 256) (a.value / 256 % 256) (a.value / 65536 % 256) (a.value / 16777216 % 256) one two three
+    part-copied c.args.space.now (bytes32 c.args.value) c.args.at _ (omega arith) (omega arith)
+    (c.copy_from_slice.ensures.after ∙ c.to_le_bytes.ensures)

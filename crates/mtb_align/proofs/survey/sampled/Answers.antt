@@ -5,22 +5,23 @@ use native.Mathlib.Omega.{arith}
 use mir.Facts.{to_z-of_z}
 use mir.Syntax.{w32}
 use mir.Val.{SFits}
-use mathlib.Core.List.{List}
 use lib.IntN.{ℤ, pos}
 use Rattle.definitions.specs.Difference.{bitmaps_in, counts}
 use Rattle.definitions.specs.Geometry.{ahead, behind}
 use Rattle.laws.specs.bitmaps.Bands.{band, band_none, band_disagreeing}
 use Rattle.mtb_align.specs.Answers.{shift_in}
-use Rattle.mtb_align.specs.Search.{map_at}
+use Rattle.mtb_align.specs.declared.packed.Packed.{Packed}
+use Rattle.mtb_align.specs.Packed.{map_of}
 use Rattle.mtb_align.specs.Survey.{sample_of}
 use Rattle.mtb_align.proofs.survey.sampled.Goals.{After-above-up, After-below-down}
 use Rattle.mtb_align.proofs.survey.sampled.Goals as goal
 
 -- the disagreement of an eighth of the rows, from row u of the reference and row d of the target on
-abbrev bands : List ℕ → ℕ → ℕ → ℤ → ℕ → ℕ → ℕ
-bands words w h x u d =
-    let rows = (h - (u + d)) / 8 in
-    (counts w rows (bitmaps_in w (band w (map_at words w h 0) u rows) (band w (map_at words w h 1) u rows)) (bitmaps_in w (band w (map_at words w h 2) d rows) (band w (map_at words w h 3) d rows))
+abbrev bands : Packed → ℤ → ℕ → ℕ → ℕ
+bands p x u d =
+    let w = p.width in
+    let rows = (p.height - (u + d)) / 8 in
+    (counts w rows (bitmaps_in w (band w (map_of p 0) u rows) (band w (map_of p 1) u rows)) (bitmaps_in w (band w (map_of p 2) d rows) (band w (map_of p 3) d rows))
     (record { x = x; y = pos 0 })).disagreeing
 
 up_is : (c : After-above-up) → c.above-up.result ≡ ahead c.args.shift.y
@@ -34,8 +35,8 @@ unfolding sample_of
 returns-then-height-up c =
     let a = c.args in
     let l = c.if-height-up.true in
-    band_none a.width (map_at a.words.now a.width a.height 0) (map_at a.words.now a.width a.height 1) (map_at a.words.now a.width a.height 2)
-    (map_at a.words.now a.width a.height 3) (shift_in a.shift) _
+    band_none a.packed.now.width (map_of a.packed.now 0) (map_of a.packed.now 1) (map_of a.packed.now 2)
+    (map_of a.packed.now 3) (shift_in a.shift) _
     (omega (arith, l, up_is (goal.at.returns-then-height-up c).After-above-up, down_is (goal.at.returns-then-height-up c).After-below-down))
 
 pub returns : goal.returns
@@ -46,5 +47,5 @@ returns c =
     let fits : SFits w32 c.args.shift.x = search rules in
     let x = to_z-of_z fits in
     c.band_disagreeing.ensures
-    ∙ ap (λ (z : ℤ). bands a.words.now a.width a.height z c.above-up.result c.below-down.result) x
-    ∙ ap₂ (bands a.words.now a.width a.height a.shift.x) (up_is w.After-above-up) (down_is w.After-below-down)
+    ∙ ap (λ (z : ℤ). bands a.packed.now z c.above-up.result c.below-down.result) x
+    ∙ ap₂ (bands a.packed.now a.shift.x) (up_is w.After-above-up) (down_is w.After-below-down)

@@ -1,6 +1,6 @@
 use mathlib.Core.Path.{◌≡◌, sym, ap, ◌∙◌}
 use mathlib.Core.List.{List}
-use Prim.Native.Nat.{ℕ, ◌+◌, ◌%◌, ◌≤◌, ◌<◌}
+use Prim.Native.Nat.{ℕ, ◌+◌, ◌*◌, ◌%◌, ◌≤◌, ◌<◌}
 use native.Mathlib.Nat.{zero-add}
 use native.Mathlib.Omega.{arith}
 use lib.ListN.{get_or, drop}
@@ -21,50 +21,43 @@ module _ (bins : List ℕ) (level added : ℕ) (e : added ≡ sum level (λ i. g
   next_le : level < 256 → level % 4 ≡ 0 → next ≤ sum 256 (λ i. get_or bins i 0)
   next_le h m = omega (arith, next-is, sum_mono (level + 4) 256 (λ i. get_or bins i 0) (omega arith))
 
-pub loop-level-init : goal.loop-level-init
-loop-level-init c = (omega arith, omega arith, sym (sum_none _), zero-add _)
+pub loop-four-init : goal.loop-four-init
+loop-four-init c = (sym (sum_none _), zero-add _)
 
 pub overflow_add-next : goal.overflow_add-next
 overflow_add-next c =
-    let l = c.loop-level in
-    omega (arith, next_le c.args.bins l.level l.added l.invariant.2 (omega arith) l.invariant.1, c.requires)
+    let l = c.loop-four in
+    omega (arith, next_le c.args.bins (4 * l.four) l.added l.invariant.0 (omega arith) (omega arith), c.requires)
 
-pub overflow_add-next-in-loop-level-2 : goal.overflow_add-next-in-loop-level-2
-overflow_add-next-in-loop-level-2 c =
-    let l = c.loop-level in
-    omega (arith, next_le c.args.bins l.level l.added l.invariant.2 (omega arith) l.invariant.1, c.requires)
+pub overflow_add-next-in-loop-four-2 : goal.overflow_add-next-in-loop-four-2
+overflow_add-next-in-loop-four-2 c =
+    let l = c.loop-four in
+    omega (arith, next_le c.args.bins (4 * l.four) l.added l.invariant.0 (omega arith) (omega arith), c.requires)
 
-pub overflow_add-next-in-loop-level-4 : goal.overflow_add-next-in-loop-level-4
-overflow_add-next-in-loop-level-4 c =
-    let l = c.loop-level in
-    omega (arith, next_le c.args.bins l.level l.added l.invariant.2 (omega arith) l.invariant.1, c.requires)
+pub overflow_add-next-in-loop-four-4 : goal.overflow_add-next-in-loop-four-4
+overflow_add-next-in-loop-four-4 c =
+    let l = c.loop-four in
+    omega (arith, next_le c.args.bins (4 * l.four) l.added l.invariant.0 (omega arith) (omega arith), c.requires)
 
-pub overflow_add-next-in-loop-level-6 : goal.overflow_add-next-in-loop-level-6
-overflow_add-next-in-loop-level-6 c =
-    let l = c.loop-level in
-    omega (arith, next_le c.args.bins l.level l.added l.invariant.2 (omega arith) l.invariant.1, c.requires)
+pub overflow_add-next-in-loop-four-6 : goal.overflow_add-next-in-loop-four-6
+overflow_add-next-in-loop-four-6 c =
+    let l = c.loop-four in
+    omega (arith, next_le c.args.bins (4 * l.four) l.added l.invariant.0 (omega arith) (omega arith), c.requires)
 
-pub bins_added_from-requires : goal.bins_added_from-requires
-bins_added_from-requires c =
-    let l = c.loop-level in
-    (omega arith, l.invariant.0, l.invariant.2, c.requires)
-
-pub returns-then-next-goal : goal.returns-then-next-goal
-returns-then-next-goal c = c.bins_added_from.ensures ∙ c.loop-level.invariant.3
-
-pub loop-level-preserved : goal.loop-level-preserved
-loop-level-preserved c =
-    let l = c.loop-level in
+pub loop-four-preserved : goal.loop-four-preserved
+loop-four-preserved c =
+    let l = c.loop-four in
     let x = c.args in
-    let n = next-is x.bins l.level l.added l.invariant.2 in (
-      omega arith,
-      omega arith,
-      n,
-      ap (λ (a : ℕ). (l.level + 4) + bins_added (drop (l.level + 4) x.bins) x.goal a) n
-          ∙ cut_past x.bins x.goal (l.level + 4) (omega arith) (omega (arith, n, c.if-next-goal.false)),
+    let level = 4 * l.four in
+    let up : level + 4 ≡ 4 * (l.four + 1) = omega arith in
+    let n = next-is x.bins level l.added l.invariant.0 in (
+      n ∙ ap (λ (k : ℕ). sum k (λ i. get_or x.bins i 0)) up,
+      rw up at (
+          ap (λ (a : ℕ). (level + 4) + bins_added (drop (level + 4) x.bins) x.goal a) n
+          ∙ cut_past x.bins x.goal (level + 4) (omega arith) (omega (arith, n, c.if-next-goal.false))),
     )
 
 pub returns : goal.returns
 returns c =
-    let l = c.loop-level in
-    omega (arith, cut_done c.args.bins c.args.goal l.added l.level (omega arith), l.invariant.3)
+    let l = c.loop-four in
+    omega (arith, cut_done c.args.bins c.args.goal l.added (4 * l.four) (omega arith), l.invariant.1)

@@ -27,28 +27,24 @@ next_le bins level added h e m =
     let f : ℕ → ℕ = λ (i : ℕ). get_or bins i 0 in
     omega (arith, sum_more level f, sum_mono (level + 1) 256 f (omega arith))
 
-pub loop-level-init : goal.loop-level-init
-loop-level-init c = (c.requires.1, c.requires.2, refl)
-
 pub returns-then-added-goal : goal.returns-then-added-goal
 returns-then-added-goal c =
     let l = c.loop-level in
-    reached _ _ l.level l.added c.if-added-goal.true ∙ l.invariant.2
+    reached _ _ l.level l.added c.if-added-goal.true ∙ l.invariant.1
 
 pub overflow_add-added : goal.overflow_add-added
 overflow_add-added c =
     let l = c.loop-level in
-    omega (arith, next_le c.args.bins.now l.level l.added (omega arith) l.invariant.1 c.requires.3)
+    omega (arith, next_le c.args.bins.now l.level l.added (omega arith) l.invariant.0 c.requires.3)
 
 pub loop-level-preserved : goal.loop-level-preserved
 loop-level-preserved c =
     let l = c.loop-level in (
-      omega arith,
-      sum_step l.level (λ i. get_or c.args.bins.now i 0) l.invariant.1 refl,
-      turned c.args.bins.now c.args.goal l.level l.added (omega (arith, c.requires.0)) c.if-added-goal.false ∙ l.invariant.2,
+      sum_step l.level (λ i. get_or c.args.bins.now i 0) l.invariant.0 refl,
+      turned c.args.bins.now c.args.goal l.level l.added (omega (arith, c.requires.0)) c.if-added-goal.false ∙ l.invariant.1,
     )
 
 pub returns : goal.returns
 returns c =
     let l = c.loop-level in
-    omega (arith, cut_done c.args.bins.now c.args.goal l.added l.level (omega (arith, c.requires.0)), l.invariant.2)
+    omega (arith, cut_done c.args.bins.now c.args.goal l.added l.level (omega (arith, c.requires.0)), l.invariant.1)

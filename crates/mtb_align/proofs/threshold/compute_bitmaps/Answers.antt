@@ -33,9 +33,6 @@ returns-then-samples-width c =
     let q = refuses_two _ _ _ _ _ (sides_skip tt _ _ _ (within (goal.at.returns-then-samples-width c).Else-side_over) (length_stop tt _ _ _ c.if-samples-width.true)) in
     record { answer = q.0; threshold = q.1.0; exclusion = q.1.1 }
 
-pub words_per_row-requires : goal.words_per_row-requires
-words_per_row-requires c = (within (goal.at.words_per_row-requires c).Else-side_over).0
-
 pub overflow_mul-words : goal.overflow_mul-words
 overflow_mul-words c =
     let s = within (goal.at.overflow_mul-words c).Else-side_over in
@@ -69,20 +66,13 @@ returns-then-percentile-gt-HIGHEST_PERCENTILE c =
     (percentile_stop tt _ _ c.if-percentile-gt-HIGHEST_PERCENTILE.true))))) in
     record { answer = q.0; threshold = q.1.0; exclusion = q.1.1 }
 
-pub cut_of-requires : goal.cut_of-requires
-cut_of-requires c =
-    let s = within (goal.at.cut_of-requires c).Else-side_over in
-    (s.0, s.1, c.if-samples-width.false, c.if-percentile-gt-HIGHEST_PERCENTILE.false)
+pub invariant_of-frame : goal.invariant_of-frame
+invariant_of-frame c = let s = within (goal.at.invariant_of-frame c).Else-side_over in record { wide = s.0; high = s.1; whole = c.if-samples-width.false }
 
 pub pack-requires : goal.pack-requires
 pack-requires c =
-    let s = within (goal.at.pack-requires c).Else-side_over in (
-      s.0,
-      s.1,
-      c.if-samples-width.false,
-      c.if-threshold-words.false ∙ words_are (goal.at.pack-requires c).After-words_per_row,
-      c.if-exclusion-words.false ∙ words_are (goal.at.pack-requires c).After-words_per_row,
-    )
+    let w = words_are (goal.at.pack-requires c).After-words_per_row in
+    (c.if-threshold-words.false ∙ w, c.if-exclusion-words.false ∙ w)
 
 pub returns : goal.returns
 unfolding packing_checks

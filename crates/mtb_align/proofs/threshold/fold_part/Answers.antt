@@ -5,7 +5,7 @@ use native.Mathlib.Omega.{arith}
 use lib.ListN.{get_or}
 use Rattle.definitions.specs.Build.{build}
 use Rattle.laws.specs.general.Lists.{build_at}
-use Rattle.laws.specs.general.Writes.{stored_none, stored_more, stored_all}
+use Rattle.laws.specs.general.Writes.{stored_none, stored_more}
 use Rattle.mtb_align.specs.Tally.{lane_total}
 use Rattle.mtb_align.proofs.threshold.fold_part.Goals as goal
 
@@ -15,23 +15,11 @@ total : (totals lanes : List ℕ) (v i : ℕ) → totals ≡ build 64 (λ (j : �
 total totals lanes v i e h =
     ap (λ (l : List ℕ). get_or l i 0) e ∙ build_at 64 (λ (j : ℕ). lane_total lanes (v + j)) i 0 h
 
-pub part_totals-totals-requires : goal.part_totals-totals-requires
-part_totals-totals-requires c = c.requires
-
 pub loop-i-init : goal.loop-i-init
-loop-i-init c = (omega arith, stored_none _ _ _)
-
-pub overflow_cast-bins : goal.overflow_cast-bins
-overflow_cast-bins c =
-    let x = c.args in
-    let i = c.loop-i.i in
-    omega (arith, total _ x.lanes.now x.v i c.part_totals-totals.ensures (omega arith), c.requires.1.fits (x.v + i) (omega arith))
+loop-i-init c = stored_none _ _ _
 
 pub loop-i-preserved : goal.loop-i-preserved
 loop-i-preserved c =
     let x = c.args in
     let i = c.loop-i.i in
-    (omega arith, stored_more c.loop-i.invariant.1 (total _ x.lanes.now x.v i c.part_totals-totals.ensures (omega arith)))
-
-pub returns : goal.returns
-returns c = stored_all c.loop-i.invariant.1 (omega arith)
+    stored_more c.loop-i.invariant (total _ x.lanes.now x.v i c.part_totals-totals.ensures (omega arith))

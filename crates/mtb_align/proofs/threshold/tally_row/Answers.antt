@@ -13,11 +13,11 @@ use Rattle.mtb_align.proofs.threshold.tally_row.Goals.{Start}
 use Rattle.mtb_align.proofs.threshold.tally_row.Goals as goal
 
 -- the row lies inside the frame, which is small
-inside : (s : Start) → let x = s.args in ((x.height - 1 - x.k) * x.width + x.width ≤ length x.samples.now) × (length x.samples.now ≤ 67108864)
+inside : (s : Start) → let f = s.args.frame.now in ((f.height - 1 - s.args.k) * f.width + f.width ≤ length f.samples.now) × (length f.samples.now ≤ 67108864)
 inside s =
-    let x = s.args in (
-      omega (arith, row_inside x.width x.height (x.height - 1 - x.k) (omega arith), mul_comm x.width x.height, s.requires.3),
-      omega (arith, area x.width x.height s.requires.0 s.requires.1, s.requires.3),
+    let f = s.args.frame.now in (
+      omega (arith, row_inside f.width f.height (f.height - 1 - s.args.k) (omega (arith, s.requires.0)), mul_comm f.width f.height, f.whole),
+      omega (arith, area f.width f.height f.wide f.high, f.whole),
     )
 
 pub overflow_mul-start : goal.overflow_mul-start
@@ -28,32 +28,34 @@ overflow_add-end c = omega (arith, inside (goal.at.overflow_add-end c).Start)
 
 pub tally_samples-requires : goal.tally_samples-requires
 tally_samples-requires c =
-    let x = c.args in
-    let start = (x.height - 1 - x.k) * x.width in
-    let t = c.requires.4 in
+    let f = c.args.frame.now in
+    let k = c.args.k in
+    let start = (f.height - 1 - k) * f.width in
+    let t = c.requires.1 in
     record {
       long = t.long;
       fits = λ v h.
           omega (
             arith,
             tally_le t v h,
-            last_rows_length x.width x.height x.samples.now c.requires.3 x.k (omega arith),
-            length-take ((start + x.width) - start) (drop start x.samples.now),
-            row_inside x.width x.height x.k (omega arith),
-            mul_comm x.width x.height,
+            last_rows_length f.width f.height f.samples.now f.whole k (omega arith),
+            length-take ((start + f.width) - start) (drop start f.samples.now),
+            row_inside f.width f.height k (omega arith),
+            mul_comm f.width f.height,
             inside (goal.at.tally_samples-requires c).Start,
-            c.requires.3,
+            f.whole,
           );
     }
 
 pub returns : goal.returns
 returns c =
-    let x = c.args in
-    let w = x.width in
-    let s = x.samples.now in
-    let start = (x.height - 1 - x.k) * w in
-    let below = last_rows w x.height s x.k in
+    let f = c.args.frame.now in
+    let k = c.args.k in
+    let w = f.width in
+    let s = f.samples.now in
+    let start = (f.height - 1 - k) * w in
+    let below = last_rows w f.height s k in
     let wide : (start + w) - start ≡ w = omega arith in
-    let more : take ((start + w) - start) (drop start s) ++ below ≡ last_rows w x.height s (x.k + 1) =
-    ap (λ (n : ℕ). take n (drop start s) ++ below) wide ∙ sym (last_rows_more w x.height s x.k (omega arith)) in
-    rw more at (tally_more c.requires.4 c.tally_samples.ensures)
+    let more : take ((start + w) - start) (drop start s) ++ below ≡ last_rows w f.height s (k + 1) =
+    ap (λ (n : ℕ). take n (drop start s) ++ below) wide ∙ sym (last_rows_more w f.height s k (omega arith)) in
+    rw more at (tally_more c.requires.1 c.tally_samples.ensures)

@@ -5,7 +5,7 @@ use Rattle.mtb_align.specs.Tally.{Tally}
 use Rattle.mtb_align.proofs.threshold.tally_rows.Given as goal
 
 abbrev pub invariant-loop-k : goal.invariant-loop-k
-invariant-loop-k l = (l.k ≤ l.height) × Tally l.lanes (last_rows l.width l.height l.samples l.k)
+invariant-loop-k l = (l.k ≤ l.frame.height) × Tally l.lanes (last_rows l.frame.width l.frame.height l.frame.samples.now l.k)
 
 abbrev pub decreases-loop-k : goal.decreases-loop-k
-decreases-loop-k l = l.height - l.k
+decreases-loop-k l = l.frame.height - l.k

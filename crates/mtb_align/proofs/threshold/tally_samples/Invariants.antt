@@ -1,11 +1,8 @@
--- The lanes count the samples from `left` on more.
-use Prim.Native.Nat.{◌≤◌}
-use lib.ListN.{length, drop}
+-- The lanes count more the samples past the first k fours, which the rest goes before.
+use Prim.Native.Nat.{◌+◌, ◌*◌}
+use lib.ListN.{drop}
 use Rattle.mtb_align.specs.Tally.{More}
 use Rattle.mtb_align.proofs.threshold.tally_samples.Given as goal
 
-abbrev pub invariant-loop-left : goal.invariant-loop-left
-invariant-loop-left l = (l.left ≤ length l.samples) × More l.initial.lanes l.lanes (drop l.left l.samples)
-
-abbrev pub decreases-loop-left : goal.decreases-loop-left
-decreases-loop-left l = l.left
+abbrev pub invariant-loop-k : goal.invariant-loop-k
+invariant-loop-k l = More l.initial.lanes l.lanes (drop (l.rest + 4 * l.k) l.samples)

@@ -28,8 +28,8 @@ returns-then-percentile-gt-HIGHEST_PERCENTILE c =
     sides_skip _ _ _ _ (within (goal.at.returns-then-percentile-gt-HIGHEST_PERCENTILE c).Else-side_over)
     (length_skip _ _ _ _ c.if-samples-width.false (percentile_stop _ _ _ c.if-percentile-gt-HIGHEST_PERCENTILE.true))
 
-pub cut_of-requires : goal.cut_of-requires
-cut_of-requires c = let s = within (goal.at.cut_of-requires c).Else-side_over in (s.0, s.1, c.if-samples-width.false, c.if-percentile-gt-HIGHEST_PERCENTILE.false)
+pub invariant_of-frame : goal.invariant_of-frame
+invariant_of-frame c = let s = within (goal.at.invariant_of-frame c).Else-side_over in record { wide = s.0; high = s.1; whole = c.if-samples-width.false }
 
 pub returns : goal.returns
 unfolding cut_checks

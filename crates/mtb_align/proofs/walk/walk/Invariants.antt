@@ -4,4 +4,4 @@ use Rattle.mtb_align.proofs.Walked.{Walking}
 use Rattle.mtb_align.proofs.walk.walk.Given as goal
 
 abbrev pub invariant-loop-i : goal.invariant-loop-i
-invariant-loop-i l = Walking (stack_in l.frames l.percentiles l.samples) l.initial.shifts l.shifts l.initial.bytes l.bytes l.initial.words l.words l.i
+invariant-loop-i l = Walking (stack_in l.stack) l.initial.shifts l.shifts l.initial.bytes l.bytes l.initial.words l.words l.i

@@ -1,13 +1,11 @@
-use mathlib.Core.Path.{sym, ap, ◌∙◌}
 use Rattle.pgm_format.specs.Pgm.{Image, read}
-use Rattle.pgm.specs.Answers.{pgm_answer}
 use Rattle.mtb_c.proofs.Slots.{status_accepted, stored, status_refused, kept}
 use Rattle.mtb_c.proofs.files.mtb_read_pgm.Goals as goal
 
-pub returns-in-Found : goal.returns-in-Found
+pub returns-in-Ok : goal.returns-in-Ok
 unfolding read
-returns-in-Found c =
-    let e = sym (ap pgm_answer c.in-Found.is) ∙ c.read.ensures in (
+returns-in-Ok c =
+    let e = c.in-Ok.ensures in (
       status_accepted _ _ e,
       stored _ _ e (λ (i : Image). i.width) _,
       stored _ _ e (λ (i : Image). i.height) _,
@@ -15,8 +13,8 @@ returns-in-Found c =
       stored _ _ e (λ (i : Image). i.next) _,
     )
 
-pub returns-in-Refused : goal.returns-in-Refused
+pub returns-in-Err : goal.returns-in-Err
 unfolding read
-returns-in-Refused c =
-    let e = sym (ap pgm_answer c.in-Refused.is) ∙ c.read.ensures in
+returns-in-Err c =
+    let e = c.in-Err.ensures in
     (status_refused _ _ e c.number.ensures, kept _ _ e _ _, kept _ _ e _ _, kept _ _ e _ _, kept _ _ e _ _)

@@ -1,20 +1,16 @@
-use mathlib.Core.Path.{sym, ap, ◌∙◌}
 use Prim.Native.Nat.{ℕ}
 use Rattle.pgm_format.specs.Pgm.{write}
-use Rattle.pgm.specs.Answers.{write_answer}
 use Rattle.mtb_c.proofs.Slots.{status_accepted, stored, status_refused, kept}
 use Rattle.mtb_c.proofs.files.mtb_write_pgm.Goals as goal
 
-pub returns-in-Written : goal.returns-in-Written
+pub returns-in-Ok : goal.returns-in-Ok
 unfolding write
-returns-in-Written c =
-    let p = c.write.ensures in
-    let e = sym (ap write_answer c.in-Written.is) ∙ p.0 in
-    (status_accepted _ _ e, p.1, stored _ _ e (λ (n : ℕ). n) _)
+returns-in-Ok c =
+    let p = c.in-Ok.ensures in
+    (status_accepted _ _ p.0, p.1, stored _ _ p.0 (λ (n : ℕ). n) _)
 
-pub returns-in-Refused : goal.returns-in-Refused
+pub returns-in-Err : goal.returns-in-Err
 unfolding write
-returns-in-Refused c =
-    let p = c.write.ensures in
-    let e = sym (ap write_answer c.in-Refused.is) ∙ p.0 in
-    (status_refused _ _ e c.number.ensures, p.1, kept _ _ e _ _)
+returns-in-Err c =
+    let p = c.in-Err.ensures in
+    (status_refused _ _ p.0 c.number.ensures, p.1, kept _ _ p.0 _ _)

@@ -1,12 +1,10 @@
-use mathlib.Core.Path.{sym, ap, ◌∙◌}
 use Rattle.definitions.specs.Geometry.{Rect}
-use Rattle.mtb_align.specs.Answers.{crop_answer}
 use Rattle.mtb_c.proofs.Slots.{status_accepted, stored, status_refused, kept}
 use Rattle.mtb_c.proofs.moves.mtb_common_crop.Goals as goal
 
-pub returns-in-Crop : goal.returns-in-Crop
-returns-in-Crop c =
-    let e = sym (ap crop_answer c.in-Crop.is) ∙ c.common_crop.ensures in
+pub returns-in-Ok : goal.returns-in-Ok
+returns-in-Ok c =
+    let e = c.in-Ok.ensures in
     record {
       status = status_accepted _ _ e;
       left = stored _ _ e (λ (r : Rect). r.x) _;
@@ -15,7 +13,7 @@ returns-in-Crop c =
       high = stored _ _ e (λ (r : Rect). r.height) _;
     }
 
-pub returns-in-Refused : goal.returns-in-Refused
-returns-in-Refused c =
-    let e = sym (ap crop_answer c.in-Refused.is) ∙ c.common_crop.ensures in
+pub returns-in-Err : goal.returns-in-Err
+returns-in-Err c =
+    let e = c.in-Err.ensures in
     record { status = status_refused _ _ e c.number.ensures; left = kept _ _ e _ _; top = kept _ _ e _ _; wide = kept _ _ e _ _; high = kept _ _ e _ _ }

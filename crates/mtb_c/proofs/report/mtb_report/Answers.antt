@@ -1,14 +1,15 @@
 use mathlib.Core.Path.{sym, ap, ◌∙◌}
-use Rattle.mtb_align.specs.Survey.{Reported, report_answer}
+use Rattle.mtb_align.specs.Survey.{Reported, reported_in}
+use Rattle.mtb_align.specs.Answers.{answered}
 use Rattle.mtb_c.specs.Status.{status_of}
 use Rattle.mtb_c.proofs.Slots.{stored, values_kept, kept, values_told}
 use Rattle.mtb_c.proofs.report.mtb_report.Goals as goal
 
-pub returns-in-Reported : goal.returns-in-Reported
-returns-in-Reported c =
+pub returns-in-Ok : goal.returns-in-Ok
+returns-in-Ok c =
     let m = c.mode.ensures in
     let p = rw m at c.report.ensures in
-    let e = sym (ap report_answer c.in-Reported.is) ∙ p.written.answered in (
+    let e = sym (ap (answered reported_in) c.in-Ok.is) ∙ p.written.answered in (
       record {
         written = record { answered = ap status_of e; placed = p.written.placed; judged = p.written.judged; recorded = p.written.recorded };
         pixels = p.pixels;
@@ -22,11 +23,11 @@ returns-in-Reported c =
       values_kept _ _ e _,
     )
 
-pub returns-in-Refused : goal.returns-in-Refused
-returns-in-Refused c =
+pub returns-in-Err : goal.returns-in-Err
+returns-in-Err c =
     let m = c.mode.ensures in
     let p = rw m at c.report.ensures in
-    let e = sym (ap report_answer c.in-Refused.is) ∙ p.written.answered in (
+    let e = sym (ap (answered reported_in) c.in-Err.is) ∙ p.written.answered in (
       record {
         written = record { answered = c.number.ensures ∙ ap status_of e; placed = p.written.placed; judged = p.written.judged; recorded = p.written.recorded };
         pixels = p.pixels;

@@ -4,17 +4,17 @@ use mir.Syntax.{w32}
 use mir.Val.{SFits}
 use mir.Facts.{to_z-of_z}
 use Rattle.definitions.specs.Align.{Stepped}
-use Rattle.mtb_align.specs.Answers.{step_answer}
+use Rattle.mtb_align.specs.Answers.{answered, stepped_in}
 use Rattle.mtb_c.specs.Status.{status_of}
 use Rattle.mtb_c.proofs.Slots.{stored, values_kept, kept, values_told}
 use Rattle.mtb_c.proofs.search.mtb_shift.Goals as goal
 
-pub returns-in-Stepped : goal.returns-in-Stepped
-returns-in-Stepped c =
+pub returns-in-Ok : goal.returns-in-Ok
+returns-in-Ok c =
     let p = rw c.mode.ensures at
     c.shift.ensures in
-    let e = sym (ap step_answer c.in-Stepped.is) ∙ p.answered in
-    let s = c.in-Stepped.s.shift in
+    let e = sym (ap (answered stepped_in) c.in-Ok.is) ∙ p.answered in
+    let s = c.in-Ok.s.shift in
     let fx : SFits w32 s.x = record { sfits = omega arith } in
     let fy : SFits w32 s.y = record { sfits = omega arith } in (
       record { answered = ap status_of e; pixels = p.pixels; maps = p.maps },
@@ -24,10 +24,10 @@ returns-in-Stepped c =
       values_kept _ _ e _,
     )
 
-pub returns-in-Refused : goal.returns-in-Refused
-returns-in-Refused c =
+pub returns-in-Err : goal.returns-in-Err
+returns-in-Err c =
     let p = rw c.mode.ensures at c.shift.ensures in
-    let e = sym (ap step_answer c.in-Refused.is) ∙ p.answered in (
+    let e = sym (ap (answered stepped_in) c.in-Err.is) ∙ p.answered in (
       record { answered = c.number.ensures ∙ ap status_of e; pixels = p.pixels; maps = p.maps },
       kept _ _ e _ _,
       kept _ _ e _ _,

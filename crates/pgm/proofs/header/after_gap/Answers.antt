@@ -24,4 +24,4 @@ returns-else-byte-eq35 c =
     gap_ends c.loop-i.invariant c.loop-i-test.true (sym c.is_white.ensures ∙ c.if-is_white.false) c.if-byte-eq35.false
 
 pub returns : goal.returns
-returns c = left_end c.loop-i.invariant c.loop-i-test.false gap_none
+returns c = left_end c.loop-i.invariant (omega arith) gap_none

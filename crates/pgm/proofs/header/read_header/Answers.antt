@@ -1,88 +1,84 @@
 -- Each field that is found leaves the header to what is behind it; the first one that is missing leaves no header.
-use mathlib.Core.Path.{◌≡◌, refl, sym, ◌∙◌}
-use mathlib.Core.Bool.{Bool, true, not}
-use Prim.Native.Nat.{ℕ, ◌+◌, ◌≤◌}
-use native.Mathlib.Omega.{arith}
+use mathlib.Core.Path.{◌≡◌, sym, ap, ◌∙◌}
 use mathlib.Core.List.{List}
+use Prim.Native.Nat.{ℕ, ◌≤◌}
 use lib.ListN.{length, drop}
-use Rattle.pgm_format.specs.Pgm.{is_missing, magic, field_of, header_of}
+use Rattle.std.specs.Prelude.{Some}
+use Rattle.pgm_format.specs.Pgm.{magic, field_of, one_white, Sizes, header_of, found}
 use Rattle.pgm.specs.declared.header.Number.{Number}
-use Rattle.pgm.specs.declared.header.FieldRead.TheVariants as fields
-use Rattle.pgm.specs.Inner.{FieldIs}
-use Rattle.pgm.proofs.Headers.{none_read, magic_found, from_width, from_height, from_highest, from_last, header_none, header_on, Step, step, step_none}
-use Rattle.pgm.proofs.Headers.{white_none, white_found, header_missing, header_found}
+use Rattle.pgm.specs.Inner.{PlaceIs, FieldIs}
+use Rattle.pgm.proofs.Headers.{got, none_read, from_width, from_height, from_highest, from_last, header_none, header_on, Step, step, step_none, last_none, last_found}
+use Rattle.pgm.proofs.Headers.{header_missing, header_found}
 use Rattle.pgm.proofs.header.read_header.Goals as goal
 
 -- ---- what is found
 
-begun : (file : List ℕ) (at : ℕ) {m : Bool} → m ≡ not (is_missing (magic (drop at file))) → m ≡ true
-    → (at + 2 ≤ length file) × (header_of (drop at file) ≡ from_width (drop (at + 2) file))
-begun file at e t = let m = magic_found file at (sym e ∙ t) in (m.0, header_on (drop at file) m.1)
+module _ (file : List ℕ) (at a : ℕ) (p : PlaceIs file (magic (drop at file)) (Some a)) where
+  begun : (a ≤ length file) × (header_of (drop at file) ≡ from_width (drop a file))
+  begun =
+      let g = got _ (magic (drop at file)) p in
+      (g.holds.inside, header_on (drop at file) g.is ∙ ap from_width (sym g.holds.left))
 
-module _ (file : List ℕ) (at : ℕ) (b : header_of (drop at file) ≡ from_width (drop (at + 2) file)) (w : Number) (p : FieldIs file (field_of (drop (at + 2) file)) (fields.Found w)) where
-  width : Step file (header_of (drop at file)) from_height w
-  width = step file (drop (at + 2) file) from_height b p refl
+  module _ (w : Number) (q : FieldIs file (field_of (drop a file)) (Some w)) where
+    width : Step file (header_of (drop at file)) from_height w
+    width = step file (drop a file) from_height begun.1 q
 
-  module _ (h : Number) (q : FieldIs file (field_of (drop w.next file)) (fields.Found h)) where
-    height : Step file (header_of (drop at file)) (from_highest width.n) h
-    height = step file (drop w.next file) (from_highest width.n) width.goes q refl
+    module _ (h : Number) (r : FieldIs file (field_of (drop w.next file)) (Some h)) where
+      height : Step file (header_of (drop at file)) (from_highest width.n) h
+      height = step file (drop w.next file) (from_highest width.n) width.goes r
 
-    module _ (t : Number) (r : FieldIs file (field_of (drop h.next file)) (fields.Found t)) where
-      highest : Step file (header_of (drop at file)) (from_last width.n height.n) t
-      highest = step file (drop h.next file) (from_last width.n height.n) height.goes r refl
+      module _ (t : Number) (s : FieldIs file (field_of (drop h.next file)) (Some t)) where
+        highest : Step file (header_of (drop at file)) (from_last width.n height.n) t
+        highest = step file (drop h.next file) (from_last width.n height.n) height.goes s
 
-pub overflow_add-at : goal.overflow_add-at
-overflow_add-at c = omega (arith, (begun c.args.file.now c.args.at c.is_magic.ensures c.if-not-is_magic.false).0)
-
-pub read_field-requires : goal.read_field-requires
-read_field-requires c = (begun c.args.file.now c.args.at c.is_magic.ensures c.if-not-is_magic.false).0
-
--- ---- what is missing
-
-pub returns-then-not-is_magic : goal.returns-then-not-is_magic
-returns-then-not-is_magic c =
+pub returns-in_err-sizes : goal.returns-in_err-sizes
+returns-in_err-sizes c =
     let f = c.args.file.now in
     let l = drop c.args.at f in
-    header_missing f l (header_none l (none_read (magic l) (sym c.is_magic.ensures ∙ c.if-not-is_magic.true)))
+    rw c.from_residual.ensures (header_missing f l (header_none l (none_read _ (magic l) c.in_err-sizes.ensures)))
 
-pub returns-in_default : goal.returns-in_default
-returns-in_default c =
+pub returns-in_err-width : goal.returns-in_err-width
+returns-in_err-width c =
     let f = c.args.file.now in
-    let b = begun f c.args.at c.is_magic.ensures c.if-not-is_magic.false in
-    header_missing f (drop c.args.at f) (step_none f (drop (c.args.at + 2) f) from_height b.1 c.in_default.ensures refl)
+    let b = begun f c.args.at c.in_ok-sizes.sizes c.in_ok-sizes.ensures in
+    rw c.from_residual-in_err-width.ensures
+    (header_missing f (drop c.args.at f) (step_none f (drop c.in_ok-sizes.sizes f) from_height b.1 c.in_err-width.ensures))
 
-pub returns-in_default-read_field : goal.returns-in_default-read_field
-returns-in_default-read_field c =
+pub returns-in_err-height : goal.returns-in_err-height
+returns-in_err-height c =
     let f = c.args.file.now in
-    let b = begun f c.args.at c.is_magic.ensures c.if-not-is_magic.false in
-    let w = width f c.args.at b.1 c.in-Found.width c.in-Found.ensures in
-    header_missing f (drop c.args.at f)
-    (step_none f (drop c.in-Found.width.next f) (from_highest w.n) w.goes c.in_default-read_field.ensures refl)
+    let w = width f c.args.at c.in_ok-sizes.sizes c.in_ok-sizes.ensures c.in_ok-width.width c.in_ok-width.ensures in
+    rw c.from_residual-in_err-height.ensures
+    (header_missing f (drop c.args.at f) (step_none f (drop c.in_ok-width.width.next f) (from_highest w.n) w.goes c.in_err-height.ensures))
 
-pub returns-in_default-read_field-2 : goal.returns-in_default-read_field-2
-returns-in_default-read_field-2 c =
+pub returns-in_err-highest : goal.returns-in_err-highest
+returns-in_err-highest c =
     let f = c.args.file.now in
-    let b = begun f c.args.at c.is_magic.ensures c.if-not-is_magic.false in
-    let w = width f c.args.at b.1 c.in-Found.width c.in-Found.ensures in
-    let h = height f c.args.at b.1 c.in-Found.width c.in-Found.ensures c.in-Found-read_field.height c.in-Found-read_field.ensures in
-    header_missing f (drop c.args.at f)
-    (step_none f (drop c.in-Found-read_field.height.next f) (from_last w.n h.n) h.goes c.in_default-read_field-2.ensures refl)
+    let w = width f c.args.at c.in_ok-sizes.sizes c.in_ok-sizes.ensures c.in_ok-width.width c.in_ok-width.ensures in
+    let h = height f c.args.at c.in_ok-sizes.sizes c.in_ok-sizes.ensures c.in_ok-width.width c.in_ok-width.ensures c.in_ok-height.height c.in_ok-height.ensures in
+    rw c.from_residual-in_err-highest.ensures
+    (header_missing f (drop c.args.at f) (step_none f (drop c.in_ok-height.height.next f) (from_last w.n h.n) h.goes c.in_err-highest.ensures))
 
--- ---- the last byte
-
-pub returns-then-start-highest : goal.returns-then-start-highest
-returns-then-start-highest c =
+pub returns-in_err-start : goal.returns-in_err-start
+returns-in_err-start c =
     let f = c.args.file.now in
-    let b = begun f c.args.at c.is_magic.ensures c.if-not-is_magic.false in
-    let t = highest f c.args.at b.1 c.in-Found.width c.in-Found.ensures c.in-Found-read_field.height c.in-Found-read_field.ensures c.in-Found-read_field-2.highest c.in-Found-read_field-2.ensures in
-    header_missing f (drop c.args.at f) (t.goes ∙ white_none _ f c.in-Found-read_field-2.highest.next c.after_white-start.ensures c.if-start-highest.true)
+    let t = highest f c.args.at c.in_ok-sizes.sizes c.in_ok-sizes.ensures c.in_ok-width.width c.in_ok-width.ensures c.in_ok-height.height
+    c.in_ok-height.ensures c.in_ok-highest.highest c.in_ok-highest.ensures in
+    let l = drop c.in_ok-highest.highest.next f in
+    rw c.from_residual-in_err-start.ensures
+    (header_missing f (drop c.args.at f) (t.goes ∙ last_none _ l (none_read _ (one_white (tt {0}) l) c.in_err-start.ensures)))
 
 pub returns : goal.returns
 returns c =
     let f = c.args.file.now in
-    let b = begun f c.args.at c.is_magic.ensures c.if-not-is_magic.false in
-    let w = width f c.args.at b.1 c.in-Found.width c.in-Found.ensures in
-    let h = height f c.args.at b.1 c.in-Found.width c.in-Found.ensures c.in-Found-read_field.height c.in-Found-read_field.ensures in
-    let t = highest f c.args.at b.1 c.in-Found.width c.in-Found.ensures c.in-Found-read_field.height c.in-Found-read_field.ensures c.in-Found-read_field-2.highest c.in-Found-read_field-2.ensures in
-    let p = c.after_white-start.ensures in
-    header_found f (drop c.args.at f) _ (t.goes ∙ white_found _ f c.in-Found-read_field-2.highest.next p t.inside c.if-start-highest.false) p.inside (w.value, h.value, t.value)
+    let w = width f c.args.at c.in_ok-sizes.sizes c.in_ok-sizes.ensures c.in_ok-width.width c.in_ok-width.ensures in
+    let h = height f c.args.at c.in_ok-sizes.sizes c.in_ok-sizes.ensures c.in_ok-width.width c.in_ok-width.ensures c.in_ok-height.height c.in_ok-height.ensures in
+    let t = highest f c.args.at c.in_ok-sizes.sizes c.in_ok-sizes.ensures c.in_ok-width.width c.in_ok-width.ensures c.in_ok-height.height
+    c.in_ok-height.ensures c.in_ok-highest.highest c.in_ok-highest.ensures in
+    let l = drop c.in_ok-highest.highest.next f in
+    let g = got _ (one_white (tt {0}) l) c.in_ok-start.ensures in
+    let sizes : Sizes = record { width = w.n; height = h.n; highest = t.n } in
+    header_found f (drop c.args.at f) _
+    (t.goes ∙ last_found sizes l g.is ∙ ap (found sizes) (sym g.holds.left))
+    g.holds.inside
+    (w.value, h.value, t.value)

@@ -6,6 +6,3 @@ use Rattle.pgm.proofs.stack.lay.Given as goal
 
 abbrev pub invariant-loop-k : goal.invariant-loop-k
 invariant-loop-k l = Laid l.file l.at (length l.initial.widths) l.widths l.heights l.samples l.place l.from l.k (length l.initial.widths - l.k)
-
-abbrev pub decreases-loop-k : goal.decreases-loop-k
-decreases-loop-k l = length l.initial.widths - l.k

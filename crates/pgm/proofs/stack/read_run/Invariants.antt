@@ -3,8 +3,5 @@ use Prim.Native.Nat.{◌-◌, ◌*◌, ◌≤◌}
 use Rattle.pgm.proofs.Runs.{Counted}
 use Rattle.pgm.proofs.stack.read_run.Given as goal
 
-abbrev pub invariant-loop-k : goal.invariant-loop-k
-invariant-loop-k l = (l.k ≤ l.n) × (l.samples ≤ l.k * 67108864) × Counted l.file l.at l.n l.samples l.next (l.n - l.k)
-
-abbrev pub decreases-loop-k : goal.decreases-loop-k
-decreases-loop-k l = l.n - l.k
+abbrev pub invariant-loop : goal.invariant-loop
+invariant-loop l = (l.samples ≤ l.counter * 67108864) × Counted l.file l.at l.n l.samples l.next (l.n - l.counter)

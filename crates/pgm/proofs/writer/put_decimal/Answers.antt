@@ -1,22 +1,36 @@
+use mathlib.Core.Path.{ap, ◌∙◌}
+use Prim.Native.Nat.{ℕ, ◌+◌, ◌-◌, ◌<◌, ◌≤◌}
 use native.Mathlib.Omega.{arith}
-use Prim.Native.Nat.{◌/◌}
-use Rattle.laws.specs.general.Decimals.{decimal_longer, decimal_some}
-use Rattle.pgm.proofs.Writing.{putting_none, putting_more, putting_room, put_all}
+use lib.ListN.{length, set}
+use Rattle.definitions.specs.Decimal.{decimal}
+use Rattle.pgm.proofs.Writing.{putting_more, rest_long, rest_short, last_place, put_all}
+use Rattle.pgm.proofs.writer.put_decimal.Goals.{After-loop-at}
 use Rattle.pgm.proofs.writer.put_decimal.Goals as goal
 
-pub overflow_sub-at : goal.overflow_sub-at
-overflow_sub-at c = omega (arith, decimal_some c.args.n, c.requires.0)
+-- one place is left
+one : (c : After-loop-at) → let l = c.loop-at in l.at ≤ c.args.end - length (decimal c.args.n) + 1
+one c = omega arith
 
-pub loop-rest-init : goal.loop-rest-init
-loop-rest-init c = putting_none c.args.file.now c.args.end c.args.n c.requires.0
+below_ten : (c : After-loop-at) → c.loop-at.rest < 10
+below_ten c = rest_short c.loop-at.invariant (one c)
 
-pub overflow_sub-at-in-loop-rest : goal.overflow_sub-at-in-loop-rest
-overflow_sub-at-in-loop-rest c =
-    let l = c.loop-rest in
-    omega (arith, putting_room l.invariant c.requires.0, decimal_longer l.rest c.loop-rest-test.true, decimal_some (l.rest / 10))
+pub loop-at-preserved : goal.loop-at-preserved
+loop-at-preserved c =
+    let l = c.loop-at in
+    putting_more l.invariant (omega arith) (rest_long l.invariant (omega arith))
 
-pub loop-rest-preserved : goal.loop-rest-preserved
-loop-rest-preserved c = putting_more c.loop-rest.invariant c.requires.0 c.loop-rest-test.true
+pub overflow_add-file-2 : goal.overflow_add-file-2
+overflow_add-file-2 c = omega (arith, below_ten (goal.at.overflow_add-file-2 c).After-loop-at)
+
+pub overflow_cast-file-2 : goal.overflow_cast-file-2
+overflow_cast-file-2 c = omega (arith, below_ten (goal.at.overflow_cast-file-2 c).After-loop-at)
+
+pub bounds-file-first : goal.bounds-file-first
+bounds-file-first c =
+    let p = c.loop-at.invariant in
+    omega (arith, p.ends, last_place p (one (goal.at.bounds-file-first c).After-loop-at))
 
 pub returns : goal.returns
-returns c = put_all c.loop-rest.invariant c.loop-rest-test.false
+returns c =
+    let l = c.loop-at in
+    ap (λ (i : ℕ). set l.file i (48 + l.rest)) (omega arith) ∙ put_all l.invariant (one (goal.at.returns c).After-loop-at)

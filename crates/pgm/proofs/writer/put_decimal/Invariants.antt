@@ -2,8 +2,5 @@
 use Rattle.pgm.proofs.Writing.{Putting}
 use Rattle.pgm.proofs.writer.put_decimal.Given as goal
 
-abbrev pub invariant-loop-rest : goal.invariant-loop-rest
-invariant-loop-rest l = Putting l.initial.file l.end l.n l.file l.at l.rest
-
-abbrev pub decreases-loop-rest : goal.decreases-loop-rest
-decreases-loop-rest l = l.rest
+abbrev pub invariant-loop-at : goal.invariant-loop-at
+invariant-loop-at l = Putting l.initial.file l.end l.n l.file l.at l.rest

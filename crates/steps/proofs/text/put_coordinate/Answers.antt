@@ -1,7 +1,4 @@
-use mathlib.Core.Path.{ap, ◌∙◌}
-use mathlib.Core.List.{List, ◌++◌}
-use Prim.Native.Nat.{ℕ}
-use lib.IntN.{nat_abs}
+use Rattle.std.proofs.Common.{ℕ, List, ◌++◌, ap, ◌∙◌, nat_abs}
 use mir.Facts.{to_z-of_z}
 use Rattle.definitions.specs.Decimal.{decimal}
 use Rattle.steps.specs.Text.{ascii}
@@ -14,7 +11,7 @@ unfolding ascii
 returns-then-coordinate-lt0 c =
     let x = c.args.coordinate in
     let f = to_z-of_z c.ranges.coordinate in
-    let size = c.magnitude-size.ensures ∙ ap nat_abs f in
+    let size = c.from-size.ensures ∙ c.unsigned_abs.ensures.value ∙ ap nat_abs f in
     put_as c.put_negative.ensures
     (ap (λ (n : ℕ). ascii " -" ++ decimal n) size ∙ ap (λ (l : List ℕ). ascii " " ++ l) (integer_below x (sign_below f c.if-coordinate-lt0.true)))
 
@@ -23,6 +20,6 @@ unfolding ascii
 returns c =
     let x = c.args.coordinate in
     let f = to_z-of_z c.ranges.coordinate in
-    let size = c.magnitude-size.ensures ∙ ap nat_abs f in
+    let size = c.from-size.ensures ∙ c.unsigned_abs.ensures.value ∙ ap nat_abs f in
     put_as c.put_next.ensures
     (ap (λ (n : ℕ). ascii " " ++ decimal n) size ∙ ap (λ (l : List ℕ). ascii " " ++ l) (integer_above x (sign_above f c.if-coordinate-lt0.false)))
