@@ -12,6 +12,7 @@ pub mod Parts
 pub mod Pixels
 pub mod Rows
 pub mod Runs
+pub mod Stretches
 pub mod Surveyed
 pub mod Taken
 pub mod Two

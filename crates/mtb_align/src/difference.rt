@@ -72,8 +72,9 @@ pub(crate) fn count(
 }
 
 // Some padding bit of the four is set. The last words of a bitmap's rows are taken together, each bitmap by itself, so that no OR
-// waits for another. All four at once, beside `padding_set`: on small frames this check was half of the time. `at += n`: `y * n` in its place
-// proved, and cost 6 to 9 % of a count on 100 by 80.
+// waits for another. All four at once, beside `padding_set`: on small frames this check was half of the time. `at += n`: `y * n` in its
+// place proved, and cost 6 to 9 % of a count on 100 by 80. n by its sum: LLVM knows the quotient of `words_per_row` here for one more
+// than `width / WORD_BITS`, and keeps eight addresses in place of four, in 1.2 to 1.35 times the time.
 fn padded(rt: &[u64], re: &[u64], st: &[u64], se: &[u64], sides: Sides) -> bool
     requires { Long rt.now re.now st.now se.now (bitmap_words sides.width sides.height) }
     ensures { result ≡ ltb 0 (padding_of rt.now re.now st.now se.now sides.width sides.height) }
@@ -83,7 +84,7 @@ fn padded(rt: &[u64], re: &[u64], st: &[u64], se: &[u64], sides: Sides) -> bool
     if spare == 0 {
         return false;
     }
-    let n = words_per_row(width);
+    let n = (width + 63) / WORD_BITS;
     let mut in_rt: u64 = 0;
     let mut in_re: u64 = 0;
     let mut in_st: u64 = 0;

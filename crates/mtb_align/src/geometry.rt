@@ -2,7 +2,7 @@
 ghost use Rattle.std.specs.Prelude.{◌≡◌, not, ◌||◌, ◌++◌, ◌+◌, ◌-◌, ◌*◌, ◌≤◌, max, min, eqb, ◌+ℤ◌, length, get_or, replicate};
 ghost use Rattle.std.proofs.lemmas.List.Edits.{sets};
 ghost use Rattle.definitions.specs.Geometry.{offset, doubled, source, shifted, ahead, behind, in_i32, shifts_of, common_crop, crop_start, crop_width};
-ghost use Rattle.definitions.specs.Build.{build};
+ghost use Rattle.definitions.specs.Build.{build, joined};
 ghost use Rattle.definitions.specs.Refusals.{answer, after, shift_checks, shifted_checks, crop_checks};
 ghost use Rattle.mtb_align.specs.Answers.{answered, shift_in, source_in, rect_in};
 ghost use Rattle.laws.specs.images.Axis.{axis_of};
@@ -138,8 +138,45 @@ fn move_row(
     clear_run(out, at + before + n, past);
 }
 
+// `rows` rows of a moved image, written from `at` on: `before` zeros, a run of samples, and `past` zeros. Their sources are the rows from
+// `from` on, each read from its column `past` on. Whole rows are one run.
+fn move_covered(
+    samples: &[u8],
+    from: usize,
+    out: &mut [u8],
+    at: usize,
+    width: usize,
+    before: usize,
+    past: usize,
+    rows: usize,
+)
+    requires { (before + past ≤ width) × (from + rows * width ≤ length samples.now) × (at + rows * width ≤ length out.old) }
+    ensures { out.new
+        ≡ sets out.old at
+        (joined rows
+        (λ y. replicate before 0 ++ (build (width - before - past) (λ k. get_or samples.now (from + y * width + past + k) 0) ++ replicate past 0))) }
+{
+    let n = width - before - past;
+    if n == width {
+        copy_run(samples, from, out, at, rows * width);
+        return;
+    }
+    for y in 0..rows {
+        move_row(
+            samples,
+            from + y * width + past,
+            out,
+            at + y * width,
+            before,
+            n,
+            past,
+        );
+    }
+}
+
 // The columns that have a source are one run: `before` columns stand left of it, it reads from column `first` on, and `first` columns
-// stand right of it. Where the first that could have a source has none, no other has.
+// stand right of it. The rows are one too: `upper` rows stand above it, it reads from row `top` on, and `top` rows stand below it.
+// Where the first that could have a source has none, no other has.
 fn move_rows(frame: &Gray<'_>, shift: Shift, moved: &mut [u8])
     requires { length moved.old ≡ frame.now.width * frame.now.height }
     ensures { moved.new ≡ shifted frame.now.width frame.now.height frame.now.samples.now (shift_in shift) }
@@ -152,22 +189,24 @@ fn move_rows(frame: &Gray<'_>, shift: Shift, moved: &mut [u8])
         clear_run(moved, 0, width * height);
         return;
     };
-    let n = width - before - first;
-    for y in 0..height {
-        let Some(row) = source(y, shift.y, height) else {
-            clear_run(moved, y * width, width);
-            continue;
-        };
-        move_row(
-            samples,
-            row * width + first,
-            moved,
-            y * width,
-            before,
-            n,
-            first,
-        );
-    }
+    let upper = first_covered(shift.y, height);
+    let Some(top) = source(upper, shift.y, height) else {
+        clear_run(moved, 0, width * height);
+        return;
+    };
+    let rows = height - upper - top;
+    clear_run(moved, 0, upper * width);
+    move_covered(
+        samples,
+        top * width,
+        moved,
+        upper * width,
+        width,
+        before,
+        first,
+        rows,
+    );
+    clear_run(moved, (upper + rows) * width, top * width);
 }
 
 /// The image moved, leaving zeros behind it. Refused: `Side`, `Length`.

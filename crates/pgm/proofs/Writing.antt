@@ -2,7 +2,7 @@
 use mathlib.Core.Path.{◌≡◌, refl, sym, ap, ap₂, ◌∙◌}
 use mathlib.Core.List.{List, [], ◌∷◌, ◌++◌, append-nil, append_assoc}
 use mathlib.Core.Logic.{⊎_elim}
-use Prim.Native.Nat.{ℕ, zero, suc, ◌+◌, ◌-◌, ◌*◌, ◌/◌, ◌%◌, ◌^◌, ◌<◌, ◌≤◌}
+use Prim.Native.Nat.{ℕ, zero, suc, ◌+◌, ◌*◌, ◌/◌, ◌%◌, ◌^◌, ◌<◌, ◌≤◌}
 use native.Mathlib.Omega.{arith}
 use lib.ListN.{length, set, length-append}
 use lib.Seq.{sets}
@@ -30,26 +30,6 @@ pub record Putting (old : List ℕ) (end n : ℕ) (new : List ℕ) (at rest : �
   pub room : length (decimal rest) ≤ at
 
 module _ {old new : List ℕ} {end n at rest : ℕ} (p : Putting old end n new at rest) where
-  -- the digits of the rest end where those put begin
-  pub front_long : end - length (decimal n) + length (decimal rest) ≡ at
-  front_long = omega (arith, p.ends, p.room, ap length p.parts, length-append (decimal rest) p.last)
-
-  -- with room for two digits or more there are as many, and with less there is one
-  pub rest_long : end - length (decimal n) + 1 < at → 10 ≤ rest
-  rest_long h = ⊎_elim (λ (l : rest < 10). absurd (few (ap length (decimal_one rest l)))) (λ (l : 10 ≤ rest). l) (lt_or_le rest 10)
-    where
-      few : length (decimal rest) ≡ 1 → ⊥
-      few e = omega (arith, front_long)
-
-  pub rest_short : at ≤ end - length (decimal n) + 1 → rest < 10
-  rest_short h = ⊎_elim (λ (l : rest < 10). l) (λ (l : 10 ≤ rest). absurd (many l)) (lt_or_le rest 10)
-    where
-      many : 10 ≤ rest → ⊥
-      many l = omega (arith, front_long, decimal_longer rest l, decimal_some (rest / 10))
-
-  pub last_place : at ≤ end - length (decimal n) + 1 → end - length (decimal n) + 1 ≡ at
-  last_place h = omega (arith, front_long, decimal_some rest)
-
   -- the next digit
   stored : (i : ℕ) → i + 1 ≡ at → (d : ℕ) → set new i d ≡ sets old i (d ∷ p.last)
   stored i e d = ap (λ (l : List ℕ). set l i d) p.held ∙ set_before old p.last i at d (omega arith) ∙ ap (λ (j : ℕ). sets (set old i d) j p.last) next
@@ -67,10 +47,31 @@ module _ {old new : List ℕ} {end n at rest : ℕ} (p : Putting old end n new a
         room = omega (arith, p.room, decimal_longer rest k);
       }
 
-  pub put_all : at ≤ end - length (decimal n) + 1 → set new (end - length (decimal n)) (48 + rest) ≡ sets old (end - length (decimal n)) (decimal n)
-  put_all h =
-      stored (end - length (decimal n)) (last_place h) (48 + rest)
-      ∙ ap (sets old (end - length (decimal n))) (sym (p.parts ∙ ap (λ (l : List ℕ). l ++ p.last) (decimal_one rest (rest_short h))))
+  module _ (first : ℕ) (f : end ≡ first + length (decimal n)) where
+    -- the digits of the rest end where those put begin
+    pub front_long : first + length (decimal rest) ≡ at
+    front_long = omega (arith, p.ends, p.room, ap length p.parts, length-append (decimal rest) p.last)
+
+    -- with room for two digits or more there are as many, and with less there is one
+    pub rest_long : first + 1 < at → 10 ≤ rest
+    rest_long h = ⊎_elim (λ (l : rest < 10). absurd (few (ap length (decimal_one rest l)))) (λ (l : 10 ≤ rest). l) (lt_or_le rest 10)
+      where
+        few : length (decimal rest) ≡ 1 → ⊥
+        few e = omega (arith, front_long)
+
+    pub rest_short : at ≤ first + 1 → rest < 10
+    rest_short h = ⊎_elim (λ (l : rest < 10). l) (λ (l : 10 ≤ rest). absurd (many l)) (lt_or_le rest 10)
+      where
+        many : 10 ≤ rest → ⊥
+        many l = omega (arith, front_long, decimal_longer rest l, decimal_some (rest / 10))
+
+    pub last_place : at ≤ first + 1 → first + 1 ≡ at
+    last_place h = omega (arith, front_long, decimal_some rest)
+
+    pub put_all : at ≤ first + 1 → set new first (48 + rest) ≡ sets old first (decimal n)
+    put_all h =
+        stored first (last_place h) (48 + rest)
+        ∙ ap (sets old first) (sym (p.parts ∙ ap (λ (l : List ℕ). l ++ p.last) (decimal_one rest (rest_short h))))
 
 pub putting_none : (old : List ℕ) (end n : ℕ) → length (decimal n) ≤ end → Putting old end n old end n
 putting_none old end n h = record { last = []; parts = sym (append-nil (decimal n)); held = refl; ends = omega arith; room = h }
@@ -82,15 +83,15 @@ pub behind : (l : List ℕ) {m : List ℕ} (i : ℕ) {j : ℕ} (s t : List ℕ) 
 behind l {m} i {j} s t e q = ap₂ (λ (k : List ℕ) (n : ℕ). sets k n t) e q ∙ sym (sets_append l i s t)
 
 pub header_put : (old : List ℕ) (w h blank feed : ℕ) → blank ≡ 3 + length (decimal w) → feed ≡ blank + 1 + length (decimal h) → {a b c d e : List ℕ}
-    → a ≡ sets old 0 (80 ∷ 53 ∷ 10 ∷ []) → b ≡ sets a (blank - length (decimal w)) (decimal w) → c ≡ sets b blank (32 ∷ [])
-    → d ≡ sets c (feed - length (decimal h)) (decimal h) → e ≡ sets d feed (10 ∷ 50 ∷ 53 ∷ 53 ∷ 10 ∷ []) → e ≡ sets old 0 (header_bytes w h)
+    → a ≡ sets old 0 (80 ∷ 53 ∷ 10 ∷ []) → b ≡ sets a 3 (decimal w) → c ≡ sets b blank (32 ∷ [])
+    → d ≡ sets c (blank + 1) (decimal h) → e ≡ sets d feed (10 ∷ 50 ∷ 53 ∷ 53 ∷ 10 ∷ []) → e ≡ sets old 0 (header_bytes w h)
 unfolding header_bytes
 header_put old w h blank feed p q {a} {b} {c} ea eb ec ed ee =
     ee
-    ∙ behind c (feed - length (decimal h)) (decimal h) end ed (omega arith)
+    ∙ behind c (blank + 1) (decimal h) end ed q
     ∙ behind b blank (32 ∷ []) (decimal h ++ end) ec (omega arith)
-    ∙ behind a (blank - length (decimal w)) (decimal w) (32 ∷ (decimal h ++ end)) eb (omega arith)
-    ∙ behind old 0 (80 ∷ 53 ∷ 10 ∷ []) (decimal w ++ (32 ∷ (decimal h ++ end))) ea (omega arith)
+    ∙ behind a 3 (decimal w) (32 ∷ (decimal h ++ end)) eb p
+    ∙ behind old 0 (80 ∷ 53 ∷ 10 ∷ []) (decimal w ++ (32 ∷ (decimal h ++ end))) ea refl
   where
     end : List ℕ
     end = 10 ∷ 50 ∷ 53 ∷ 53 ∷ 10 ∷ []

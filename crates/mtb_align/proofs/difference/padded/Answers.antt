@@ -23,7 +23,7 @@ record Here (rt re st se : List ℕ) (at n : ℕ) : Type 0 where
 
 reads_here : (c : In-loop) →
     let x = c.args in
-    Here x.rt.now x.re.now x.st.now x.se.now c.loop.at c.words_per_row-n.result
+    Here x.rt.now x.re.now x.st.now x.se.now c.loop.at (words_per_row x.sides.width)
 reads_here c =
     let s = c.args.sides in
     let w = s.width in
@@ -35,7 +35,7 @@ reads_here c =
       in_re = omega (arith, l.second);
       in_st = omega (arith, l.third);
       in_se = omega (arith, l.fourth);
-      small = omega (arith, c.words_per_row-n.ensures, words_most w s.wide);
+      small = omega (arith, words_most w s.wide);
     }
 
 pub returns-then-spare-eq0 : goal.returns-then-spare-eq0
@@ -49,13 +49,14 @@ pub loop-init : goal.loop-init
 loop-init c = (omega arith, clear_none _ _, clear_none _ _, clear_none _ _, clear_none _ _)
 
 pub loop-preserved : goal.loop-preserved
+unfolding words_per_row
 loop-preserved c =
     let x = c.args in
     let s = x.sides in
     let y = c.loop.counter in
     let ne = c.if-spare-eq0.false in
     let e = c.loop.invariant.0 in (
-      omega (arith, add-mul y 1 (words_per_row s.width), c.words_per_row-n.ensures),
+      omega (arith, add-mul y 1 (words_per_row s.width)),
       clear_more x.rt.now s.width ne y _ _ e (omega (arith, c.type_inv.rt c.loop.at)) c.loop.invariant.1,
       clear_more x.re.now s.width ne y _ _ e (omega (arith, c.type_inv.re c.loop.at)) c.loop.invariant.2,
       clear_more x.st.now s.width ne y _ _ e (omega (arith, c.type_inv.st c.loop.at)) c.loop.invariant.3,

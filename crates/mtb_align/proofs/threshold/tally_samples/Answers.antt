@@ -30,8 +30,8 @@ loop-k-preserved c =
     ap (λ (r : List ℕ). take 4 (drop at s) ++ r) (ap (λ (n : ℕ). drop n s) (sym next) ∙ sym (drop-drop 4 at s)) ∙ take-append-drop 4 (drop at s) in
     rw all at (more_before l.invariant c.count_four.ensures)
 
-pub count_rest-requires : goal.count_rest-requires
-count_rest-requires c =
+pub count_rest-requires-2 : goal.count_rest-requires-2
+count_rest-requires-2 c =
     let l = c.loop-k in
     let s = c.args.samples.now in
     (omega arith, omega arith, more_room c.requires l.invariant (omega (arith, length-drop (length s % 4 + 4 * l.k) s)))
@@ -42,4 +42,4 @@ returns c =
     let s = c.args.samples.now in
     let rest = length s % 4 in
     let none : rest + 4 * l.k ≡ rest = omega arith in
-    rw (take-append-drop rest s) at (more_before (rw none at l.invariant) c.count_rest.ensures)
+    rw (take-append-drop rest s) at (more_before (rw none at l.invariant) c.count_rest-2.ensures)
