@@ -1,6 +1,6 @@
 // Both counts of two packed pairs at a shift. rt and re are the reference's threshold and exclusion bitmap, st and se the target's,
 // which is the source of what is shown on the reference.
-ghost use Rattle.std.specs.Prelude.{◌≡◌, ◌≤◌, ltb};
+ghost use Rattle.std.specs.Prelude.{◌≡◌, ltb};
 ghost use Rattle.definitions.specs.Bitmap.{bitmap_words};
 ghost use Rattle.definitions.specs.Difference.{bitmaps_in, counts};
 ghost use Rattle.definitions.specs.Refusals.{answer, counting_checks};
@@ -74,7 +74,7 @@ pub(crate) fn count(
 // Some padding bit of the four is set. The last words of a bitmap's rows are taken together, each bitmap by itself, so that no OR
 // waits for another. All four at once, beside `padding_set`: on small frames this check was half of the time. `at += n`: `y * n` in its
 // place proved, and cost 6 to 9 % of a count on 100 by 80. n by its sum: LLVM knows the quotient of `words_per_row` here for one more
-// than `width / WORD_BITS`, and keeps eight addresses in place of four, in 1.2 to 1.35 times the time.
+// than `width / WORD_BITS`, and keeps eight addresses in place of four: small counts then took 1.1 to 1.5 times as long.
 fn padded(rt: &[u64], re: &[u64], st: &[u64], se: &[u64], sides: Sides) -> bool
     requires { Long rt.now re.now st.now se.now (bitmap_words sides.width sides.height) }
     ensures { result ≡ ltb 0 (padding_of rt.now re.now st.now se.now sides.width sides.height) }

@@ -70,7 +70,7 @@ fn tally_samples(lanes: &mut [u32; 4 * LEVELS], samples: &[u8])
     ensures { More lanes.old lanes.new samples.now }
 {
     let n = samples.len();
-    // By the length and not by its rest of four: then the loop over a single column knows that its rows lie next to each other, where it
+    // By the length and not by its rest of four: LLVM then knows that the rows of a single column lie next to each other. By the rest a column
     // took 1.6 times as long.
     if n < 4 {
         count_rest(lanes, samples, n);

@@ -1,5 +1,5 @@
 // The header of a written file. A number's digits come from its last one, so each is put where it ends.
-ghost use Rattle.std.specs.Prelude.{◌≡◌, ◌+◌, ◌-◌, ◌≤◌, length};
+ghost use Rattle.std.specs.Prelude.{◌≡◌, ◌+◌, ◌≤◌, length};
 ghost use Rattle.std.proofs.lemmas.List.Edits.{sets};
 ghost use Rattle.definitions.specs.Decimal.{decimal};
 ghost use Rattle.pgm_format.specs.Pgm.{header_bytes};
